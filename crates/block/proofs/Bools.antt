@@ -1,0 +1,15 @@
+-- Small facts of bools, for tests that are joined. Assumes nothing.
+use mathlib.Core.Path.{_≡_, refl, sym, subst}
+use mathlib.Core.Bool.{Bool, true, false, _&&_}
+use Prim.Native.Nat.{_≤_}
+use native.Mathlib.Omega.{arith}
+use lib.Dec.{T}
+use Rattle.block.specs.Counting.{oneIf}
+
+pub and-both : (p q : Bool) → (p && q) ≡ true → (p ≡ true) × (q ≡ true)
+and-both true q h = (refl, h)
+and-both false q h = absurd (subst T (sym h) tt)
+
+pub one-most : (b : Bool) → oneIf b ≤ 1
+one-most true = omega arith
+one-most false = omega arith

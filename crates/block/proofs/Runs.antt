@@ -1,0 +1,23 @@
+-- A call that is fit: Drift where the walk finds a step outside, else the samples. For any oscillator. Assumes nothing.
+use mathlib.Core.Path.{_≡_, ap}
+use mathlib.Core.List.{List}
+use Prim.Native.Nat.{ℕ}
+use lib.ListN.{length}
+use lib.Ieee.{Float}
+use Rattle.parameter_interpolator.specs.declared.ParameterInterpolator.{ParameterInterpolator}
+use Rattle.block.specs.declared.Room.{Room}
+use Rattle.block.specs.declared.Found.{Found}
+use Rattle.block.specs.declared.Found.the-variants.{Outside, Nowhere}
+use Rattle.block.specs.Counting.{noCounts}
+use Rattle.block.specs.Steps.{stepsOf, firstOutside}
+use Rattle.block.specs.Play.{Sample, play}
+use Rattle.block.specs.Calls.{refusal, done, driftOr, run}
+
+module _ {S : Type 0} (make : S → List Float → Float → Sample S) (rooms : List Room) (ps : List ParameterInterpolator) (s : S) (xs : List Float) where
+  pub run-drift : (i : ℕ) → firstOutside rooms (stepsOf (length xs) ps) ≡ Outside i → run make rooms ps s xs ≡ refusal 6 i s xs
+  unfolding run
+  run-drift i h = ap (λ (f : Found). driftOr f s xs (play make s noCounts (stepsOf (length xs) ps) xs)) h
+
+  pub run-done : firstOutside rooms (stepsOf (length xs) ps) ≡ Nowhere → run make rooms ps s xs ≡ done (play make s noCounts (stepsOf (length xs) ps) xs)
+  unfolding run
+  run-done h = ap (λ (f : Found). driftOr f s xs (play make s noCounts (stepsOf (length xs) ps) xs)) h

@@ -1,0 +1,29 @@
+-- `block::sum` meets its contract: each field is a sum that wraps. Assumes nothing.
+use borrow.Author.Needs.{needs}
+use Rattle.block.proofs.sum.Statement.{statement}
+use Rattle.block.proofs.sum.Tie as tie
+
+wrapping-add-u32-requires : tie.Need-wrapping-add-u32-requires
+wrapping-add-u32-requires c κs = search needs
+
+wrapping-add-u32-requires-2 : tie.Need-wrapping-add-u32-requires-2
+wrapping-add-u32-requires-2 c κs = search needs
+
+wrapping-add-u32-requires-3 : tie.Need-wrapping-add-u32-requires-3
+wrapping-add-u32-requires-3 c κs = search needs
+
+wrapping-add-u32-requires-4 : tie.Need-wrapping-add-u32-requires-4
+wrapping-add-u32-requires-4 c κs = search needs
+
+returns : tie.Need-returns
+returns c = cc
+
+pub sum-spec : {M : Type 1} → statement M
+sum-spec =
+    tie.close
+    (tie.spec
+    wrapping-add-u32-requires
+    wrapping-add-u32-requires-2
+    wrapping-add-u32-requires-3
+    wrapping-add-u32-requires-4
+    returns)

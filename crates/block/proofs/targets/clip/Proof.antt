@@ -1,0 +1,12 @@
+-- `block::targets::clip` meets its contract: each way of the test is the definition's. Assumes nothing.
+use Rattle.block.proofs.targets.clip.Statement.{statement}
+use Rattle.block.proofs.targets.clip.Tie as tie
+
+returns : tie.Need-returns
+returns c = rw (c .if1 .taken)
+
+returns-2 : tie.Need-returns-2
+returns-2 c = rw (c .if1 .left)
+
+pub clip-spec : {M : Type 1} → statement M
+clip-spec = tie.close (tie.spec returns returns-2)

@@ -1,0 +1,28 @@
+-- The four counts of 01: none, their sum, and a bool counted. Assumes nothing.
+use mathlib.Core.Bool.{Bool, cond}
+use Prim.Native.Nat.{ℕ, _+_, _%_, _^_}
+use Rattle.block.specs.declared.Counts.{Counts}
+
+abbrev pub noCounts : Counts
+noCounts = record { cycles = 0; rises = 0; falls = 0; cuts = 0 }
+
+abbrev pub plus : Counts → Counts → Counts
+plus a b = record {
+  cycles = a .cycles + b .cycles;
+  rises = a .rises + b .rises;
+  falls = a .falls + b .falls;
+  cuts = a .cuts + b .cuts;
+}
+
+-- as 32-bit numbers hold them
+abbrev pub wrapped : Counts → Counts
+wrapped c = record {
+  cycles = c .cycles % 2 ^ 32;
+  rises = c .rises % 2 ^ 32;
+  falls = c .falls % 2 ^ 32;
+  cuts = c .cuts % 2 ^ 32;
+}
+
+-- a bool "taken as 1 or 0"
+abbrev pub oneIf : Bool → ℕ
+oneIf b = cond b 1 0

@@ -1,0 +1,12 @@
+-- The laws of binary32 that the oscillators' proofs cite.
+pub mod Rounding
+pub mod Values
+pub mod Order
+pub mod Held
+pub mod Signed
+pub mod At
+pub mod Ticks
+pub mod Turn
+pub mod Ranges
+pub mod PowerOfTwo
+pub mod Integers

@@ -1,0 +1,54 @@
+// Rust's f32::min, max, clamp and abs, worked out with comparisons, and a float from any bit pattern.
+ghost use mathlib.Core.Path.{_≡_};
+ghost use Rattle.floats.specs.F32.{f32};
+ghost use Rattle.floats.specs.Helpers.{minOf, maxOf, atLeast, clampOf, absOf};
+
+pub fn min(x: f32, y: f32) -> f32
+    ensures { λ r. ⌜ r ≡ minOf x y ⌝ }
+{
+    if (x < y) | (y != y) { x } else { y }
+}
+
+pub fn max(x: f32, y: f32) -> f32
+    ensures { λ r. ⌜ r ≡ maxOf x y ⌝ }
+{
+    if (y < x) | (y != y) { x } else { y }
+}
+
+// At least `low`, and then at most `high`.
+pub fn clamp(x: f32, low: f32, high: f32) -> f32
+    ensures { λ r. ⌜ r ≡ clampOf x low high ⌝ }
+{
+    let raised = at_least(x, low);
+    if high < raised { high } else { raised }
+}
+
+fn at_least(x: f32, low: f32) -> f32
+    ensures { λ r. ⌜ r ≡ atLeast x low ⌝ }
+{
+    if x < low { low } else { x }
+}
+
+// A zero of either sign becomes 0.0, since it is not below 0.
+pub fn abs(x: f32) -> f32
+    ensures { λ r. ⌜ r ≡ absOf x ⌝ }
+{
+    if x < 0.0 {
+        -x
+    } else if x == 0.0 {
+        0.0
+    } else {
+        x
+    }
+}
+
+// The float of any pattern. f32::from_bits is undefined at a NaN's, which lie above an infinity's.
+pub fn from_bits(bits: u32) -> f32
+    ensures { λ r. ⌜ r ≡ f32 bits ⌝ }
+{
+    if bits % 0x8000_0000 > 0x7f80_0000 {
+        0.0 / 0.0
+    } else {
+        f32::from_bits(bits)
+    }
+}

@@ -1,0 +1,13 @@
+-- `ParameterInterpolator::new` meets its contract: the divisor is the float nearest to the block length. Assumes nothing.
+use borrow.Author.Needs.{needs}
+use Rattle.parameter_interpolator.proofs.ParameterInterpolator.new.Statement.{statement}
+use Rattle.parameter_interpolator.proofs.ParameterInterpolator.new.Tie as tie
+
+nearest-u32-to-f32-requires : tie.Need-nearest-u32-to-f32-requires
+nearest-u32-to-f32-requires c κs = search needs
+
+returns : tie.Need-returns
+returns c = cc
+
+pub new-spec : {M : Type 1} → statement M
+new-spec = tie.close (tie.spec nearest-u32-to-f32-requires returns)

@@ -1,0 +1,75 @@
+-- A whole call of the super square, in plain values: each way out of `render` is the definition's. Assumes nothing.
+use mathlib.Core.Path.{_≡_, refl, sym, ap, _∙_}
+use mathlib.Core.Bool.{true, false}
+use mathlib.Core.List.{List, [], _∷_, _++_}
+use Prim.Native.Nat.{ℕ, _≤_, _<_}
+use borrow.Author.Tests.{lt-ltb, le-ltb}
+use lib.Dec.{T}
+use lib.ListN.{length}
+use lib.Ieee.{Float, binary32, fits}
+use Rattle.floats.specs.F32.{_⊗_}
+use Rattle.floats.proofs.Ticks.{one-at}
+use Rattle.floats.proofs.Ranges.{under-of}
+use Rattle.parameter_interpolator.specs.declared.ParameterInterpolator.{ParameterInterpolator}
+use Rattle.parameter_interpolator.specs.Interpolator.{newInterpolator}
+use Rattle.block.specs.declared.Answer.the-variants.{LongBlock, BadState, BadParam, Drift}
+use Rattle.block.specs.declared.Found.{Found}
+use Rattle.block.specs.declared.Found.the-variants.{Outside, Nowhere}
+use Rattle.block.specs.Targets.{clipped}
+use Rattle.block.specs.Steps.{stepsOf, firstOutside}
+use Rattle.block.specs.Calls.{run}
+use Rattle.block.proofs.Bools.{and-both}
+use Rattle.block.proofs.Padding.{unused, padded}
+use Rattle.block.proofs.Runs.{run-drift, run-done}
+use Rattle.super_square.specs.declared.State.{State}
+use Rattle.super_square.specs.declared.Rendered.{Rendered}
+use Rattle.super_square.specs.Sample.{sampleAt}
+use Rattle.super_square.specs.Block.{stateIn, parametersIn, factorOf, rooms, renderOf, left}
+use Rattle.super_square.specs.Private.{Valid, Fit, Playable, playedOf, refused}
+
+-- the walk's answer, over the five places that it takes
+module _ (s : State) (m f still : ParameterInterpolator) (xs : List Float) (found : Found)
+    (walked : found ≡ firstOutside (rooms ++ unused 3) (stepsOf (length xs) ((m ∷ f ∷ []) ++ still ∷ still ∷ still ∷ []))) where
+  searched : found ≡ firstOutside rooms (stepsOf (length xs) (m ∷ f ∷ []))
+  searched = walked ∙ padded (length xs) rooms 3 (m ∷ f ∷ []) (still ∷ still ∷ still ∷ []) refl
+
+  pub drifted : (i : ℕ) (r : Rendered) → found ≡ Outside i → r ≡ refused (Drift i) s → left r xs ≡ run sampleAt rooms (m ∷ f ∷ []) s xs
+  drifted i r h e = ap (λ (q : Rendered). left q xs) e ∙ sym (run-drift sampleAt rooms (m ∷ f ∷ []) s xs i (sym searched ∙ h))
+
+  module _ (h : found ≡ Nowhere) where
+    pub playable : Fit s xs → Playable s (m ∷ f ∷ []) xs
+    playable k = record { fit = k; inside = sym searched ∙ h }
+
+    pub played : (r : Rendered) (after : List Float) → left r after ≡ playedOf s (m ∷ f ∷ []) xs → left r after ≡ run sampleAt rooms (m ∷ f ∷ []) s xs
+    played r after e = e ∙ sym (run-done sampleAt rooms (m ∷ f ∷ []) s xs (sym searched ∙ h))
+
+-- a state that passed its test is valid
+pub valid-of : (s : State) → T (fits binary32 (s .«master_phase»)) → T (fits binary32 (s .«slave_phase»)) → stateIn s ≡ true → Valid s
+unfolding stateIn
+valid-of s a b h =
+    let p = and-both _ _ (and-both _ _ (and-both _ _ h .0) .0) in
+    let m = and-both _ _ (p .0) in
+    let f = and-both _ _ (p .1) in
+    record { master = under-of a (m .0) (m .1) one-at; slave = under-of b (f .0) (f .1) one-at }
+
+module _ (s : State) (frequency shape : Float) (xs : List Float) (r : Rendered) where
+  pub long-block : 4096 < length xs → r ≡ refused LongBlock s → left r xs ≡ renderOf s frequency shape xs
+  unfolding renderOf
+  long-block l e = rw (lt-ltb 4096 (length xs) l, e)
+
+  module _ (l : length xs ≤ 4096) where
+    pub bad-state : stateIn s ≡ false → r ≡ refused BadState s → left r xs ≡ renderOf s frequency shape xs
+    unfolding renderOf
+    bad-state a e = rw (le-ltb 4096 (length xs) l, a, e)
+
+    module _ (a : stateIn s ≡ true) where
+      pub bad-param : parametersIn frequency shape ≡ false → r ≡ refused BadParam s → left r xs ≡ renderOf s frequency shape xs
+      unfolding renderOf
+      bad-param b e = rw (le-ltb 4096 (length xs) l, a, b, e)
+
+      pub rendered : parametersIn frequency shape ≡ true → (masterTarget factor slaveTarget : Float) (m f : ParameterInterpolator) (after : List Float)
+          → masterTarget ≡ clipped frequency → factor ≡ factorOf shape → slaveTarget ≡ clipped (frequency ⊗ factor)
+          → m ≡ newInterpolator (s .«master_frequency») masterTarget (length xs) → f ≡ newInterpolator (s .«slave_frequency») slaveTarget (length xs)
+          → left r after ≡ run sampleAt rooms (m ∷ f ∷ []) s xs → left r after ≡ renderOf s frequency shape xs
+      unfolding renderOf
+      rendered b mt fc st m f after at-mt at-fc at-st at-m at-f e = e ∙ rw (le-ltb 4096 (length xs) l, a, b, at-m, at-f, at-mt, at-st, at-fc)

@@ -1,0 +1,113 @@
+-- A sample keeps the phases at least 0 and below 1, and counts at most one cycle, two rises, one fall and one cut. Assumes nothing.
+use mathlib.Core.Path.{_≡_, refl}
+use mathlib.Core.Bool.{Bool, true, false, cond}
+use mathlib.Core.List.{[], _∷_}
+use Prim.Native.Nat.{ℕ, _+_, _*_, _≤_}
+use native.Mathlib.Omega.{arith}
+use lib.Ieee.{Float, le}
+use Rattle.floats.specs.F32.{_⊕_, _⊖_, _⊘_, half32, one32}
+use Rattle.floats.proofs.Ticks.{tick, cycle, one-at, tick-pos, topStep-at, Sum}
+use Rattle.floats.proofs.Turn.{Step, turn-1, turn-sum, turn-wraps, turn-stays}
+use Rattle.floats.proofs.Ranges.{Under, passed-le, failed-le, positive-of, mul-le, reset-time}
+use Rattle.block.specs.declared.Edge.{Edge}
+use Rattle.block.specs.Counting.{oneIf}
+use Rattle.block.specs.Sync.{transitionDuringReset, slaveAtReset, wrapOnce, cutEdge}
+use Rattle.block.specs.Steps.{allIn}
+use Rattle.block.proofs.Bools.{and-both, one-most}
+use Rattle.block.proofs.Crossings.{Crossable, Crossed, crossed-of}
+use Rattle.block.proofs.Plays.{Inside, Keeps}
+use Rattle.super_square.specs.declared.State.{State}
+use Rattle.super_square.specs.declared.sample.Sampled.{Sampled}
+use Rattle.super_square.specs.Sample.{level, crossed, edgeOf, finish, resetEdge, resetSample, plainSample, sampleOf, sampleAt}
+use Rattle.super_square.specs.Block.{rooms}
+use Rattle.super_square.specs.Private.{Valid, Ready}
+use Rattle.super_square.proofs.Edges.{crosses, half-narrow, edge-crossable, cut-crossable}
+
+-- what one sample does to a master's phase of a units with a step of b, and to all else
+pub record Law (s : State) (a b : ℕ) (t : Sampled) : Type 0 where
+  pub master : Step (t .state .«master_phase») (t .counts .cycles) a b cycle tick cycle
+  pub slave : Under (t .state .«slave_phase») cycle
+  pub rises : t .counts .rises ≤ 2
+  pub falls : t .counts .falls ≤ 1
+  pub cuts : t .counts .cuts ≤ 1
+  pub balance : t .counts .rises + oneIf (s .high) ≡ t .counts .falls + t .counts .cuts + oneIf (t .state .high)
+
+module _ (s : State) (masterFrequency slaveFrequency : Float) (h : Ready s masterFrequency slaveFrequency) where
+  sum : Sum (s .«master_phase» ⊕ masterFrequency) (h .valid .master .n) (h .master .n) (21233664 * tick) tick
+  sum = turn-sum turn-1 (h .valid .master .at) (h .master .at) (omega (arith, h .valid .master .under, h .master .most))
+
+  all-crossed : (e : Edge) → Crossable e → Crossed (e .high) (crossed slaveFrequency e)
+  all-crossed e k = crossed-of half32 _ _ (crosses slaveFrequency) half-narrow e k
+
+  plain-law : le one32 (s .«master_phase» ⊕ masterFrequency) ≡ false → Law s (h .valid .master .n) (h .master .n) (plainSample s masterFrequency slaveFrequency (s .«master_phase» ⊕ masterFrequency))
+  unfolding plainSample finish edgeOf
+  plain-law l =
+      let c = all-crossed (edgeOf s slaveFrequency) (edge-crossable h) in
+      record {
+        master = turn-stays turn-1 sum (failed-le one-at (sum .at) l);
+        slave = c .phase;
+        rises = c .rises;
+        falls = c .falls;
+        cuts = omega arith;
+        balance = omega (arith, c .balance);
+      }
+
+  -- with a reset the loop may not run, and then nothing is counted
+  reset-crossed : (r e : Edge) (t : Bool) → Crossable e → r ≡ cond t (crossed slaveFrequency e) e
+      → (r .rises ≤ 2) × (r .falls ≤ 1) × (r .rises + oneIf (e .high) ≡ r .falls + oneIf (r .high))
+  reset-crossed r e true k q = let c = all-crossed e k in rw q (c .rises, c .falls, c .balance)
+  reset-crossed r e false k q = rw q (omega (arith, k .no-rises), omega (arith, k .no-falls), omega (arith, k .no-rises, k .no-falls))
+
+  reset-counts : (time : Float) → (let r = resetEdge s slaveFrequency time in
+      (r .rises ≤ 2) × (r .falls ≤ 1) × (r .rises + oneIf (s .high) ≡ r .falls + oneIf (r .high)))
+  unfolding resetEdge edgeOf
+  reset-counts time =
+      let reached = slaveAtReset (s .«slave_phase») slaveFrequency time in
+      let e = cutEdge (level (wrapOnce reached)) time (edgeOf s slaveFrequency) in
+      reset-crossed (resetEdge s slaveFrequency time) e (transitionDuringReset (s .high) half32 reached) (cut-crossable (level (wrapOnce reached)) time (edgeOf s slaveFrequency) e refl (edge-crossable h)) refl
+
+  reset-law : le one32 (s .«master_phase» ⊕ masterFrequency) ≡ true → Law s (h .valid .master .n) (h .master .n) (resetSample s masterFrequency slaveFrequency (s .«master_phase» ⊕ masterFrequency ⊖ one32))
+  unfolding resetSample finish
+  reset-law l =
+      let masterPhase = s .«master_phase» ⊕ masterFrequency ⊖ one32 in
+      let c = reset-counts (masterPhase ⊘ masterFrequency) in
+      let time = reset-time (h .valid .master .at) (h .master .at) (h .master .some) (h .valid .master .under) (h .master .most) l in
+      let slave = mul-le (time .at) (h .slave .at) (time .most) in
+      record {
+        master = turn-wraps turn-1 sum (passed-le one-at (sum .at) l);
+        slave = record { n = slave .n; at = slave .at; under = omega (arith, slave .most, h .slave .most, tick-pos) };
+        rises = c .0;
+        falls = c .1;
+        cuts = one-most (resetEdge s slaveFrequency (masterPhase ⊘ masterFrequency) .high);
+        balance = omega (arith, c .2);
+      }
+
+  pub sample-law : Law s (h .valid .master .n) (h .master .n) (sampleOf s masterFrequency slaveFrequency)
+  unfolding sampleOf
+  sample-law = go (le one32 (s .«master_phase» ⊕ masterFrequency)) refl
+    where
+      go : (t : Bool) → le one32 (s .«master_phase» ⊕ masterFrequency) ≡ t
+          → Law s (h .valid .master .n) (h .master .n)
+          (cond t (resetSample s masterFrequency slaveFrequency (s .«master_phase» ⊕ masterFrequency ⊖ one32)) (plainSample s masterFrequency slaveFrequency (s .«master_phase» ⊕ masterFrequency)))
+      go true l = reset-law l
+      go false l = plain-law l
+
+-- the steps of a sample that passed the walk
+pub ready-of : (s : State) (masterFrequency slaveFrequency : Float) → Valid s → Inside rooms (masterFrequency ∷ slaveFrequency ∷ []) → Ready s masterFrequency slaveFrequency
+unfolding allIn
+ready-of s m f v i =
+    let r = and-both _ _ (i .rooms) in
+    let p = and-both _ _ (r .0) in
+    let q = and-both _ _ (and-both _ _ (r .1) .0) in
+    record { valid = v; master = positive-of (i .fit .0) (p .0) (p .1) topStep-at; slave = positive-of (i .fit .1 .0) (q .0) (q .1) topStep-at }
+
+pub keeps : Keeps sampleAt rooms Valid
+keeps s [] x v i = absurd (omega (arith, i .long))
+keeps s (m ∷ []) x v i = absurd (omega (arith, i .long))
+keeps s (m ∷ f ∷ []) x v i =
+    let l = sample-law s m f (ready-of s m f v i) in
+    record {
+      ok = record { master = record { n = l .master .n; at = l .master .at; under = l .master .stays }; slave = l .slave };
+      few = record { cycles = l .master .once; rises = l .rises; falls = l .falls; cuts = l .cuts };
+    }
+keeps s (m ∷ f ∷ g ∷ rest) x v i = absurd (omega (arith, i .long))

@@ -1,0 +1,5 @@
+-- The laws of the super square.
+pub mod Edges
+pub mod Keeping
+pub mod Loop
+pub mod Calls

@@ -1,0 +1,21 @@
+-- `super_square::sample::fall` meets its contract. Assumes nothing.
+use Rattle.super_square.specs.Sample.{fallOf}
+use borrow.Author.Needs.{needs}
+use Rattle.super_square.proofs.sample.fall.Statement.{statement}
+use Rattle.super_square.proofs.sample.fall.Tie as tie
+
+this-blep-sample-requires : tie.Need-this-blep-sample-requires
+this-blep-sample-requires c κs = search needs
+
+next-blep-sample-requires : tie.Need-next-blep-sample-requires
+next-blep-sample-requires c κs = search needs
+
+add-t9 : tie.Need-add-t9
+add-t9 c = search needs
+
+returns : tie.Need-returns
+unfolding fallOf
+returns c = cc
+
+pub fall-spec : {M : Type 1} → statement M
+fall-spec = tie.close (tie.spec this-blep-sample-requires next-blep-sample-requires add-t9 returns)

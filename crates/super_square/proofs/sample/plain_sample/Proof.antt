@@ -1,0 +1,23 @@
+-- `super_square::sample::plain_sample` meets its contract. Assumes nothing.
+use mathlib.Core.Path.{sym, subst}
+use Rattle.block.proofs.Crossings.{Crossable}
+use Rattle.super_square.specs.Sample.{plainSample}
+use borrow.Author.Needs.{needs}
+use Rattle.super_square.proofs.sample.plain_sample.Statement.{statement}
+use Rattle.super_square.proofs.sample.plain_sample.Tie as tie
+
+edge-requires : tie.Need-edge-requires
+edge-requires c κs = search needs
+
+cross-requires : tie.Need-cross-requires
+cross-requires c κs = subst Crossable (sym (c .edge .ensures)) (c .before .pre)
+
+finish-requires : tie.Need-finish-requires
+finish-requires c κs = search needs
+
+returns : tie.Need-returns
+unfolding plainSample
+returns c = cc
+
+pub plain-sample-spec : {M : Type 1} → statement M
+plain-sample-spec = tie.close (tie.spec edge-requires cross-requires finish-requires returns)

@@ -1,0 +1,65 @@
+-- A whole call of the super square: super_square_oscillator.rs, lines 35 to 132, with 01's refusals before it. Assumes nothing.
+use mathlib.Core.Bool.{Bool, false, not, _&&_, cond}
+use mathlib.Core.List.{List, [], _∷_}
+use Prim.Native.Nat.{ℕ}
+use lib.Dec.{ltb}
+use lib.ListN.{length}
+use lib.Ieee.{Float, lt}
+use Rattle.floats.specs.F32.{_⊕_, _⊖_, _⊗_, f32, zero32, half32, one32, sixteen32}
+use Rattle.parameter_interpolator.specs.declared.ParameterInterpolator.{ParameterInterpolator}
+use Rattle.parameter_interpolator.specs.Interpolator.{newInterpolator}
+use Rattle.block.specs.declared.Room.{Room}
+use Rattle.block.specs.declared.Room.the-variants.{Frequency}
+use Rattle.block.specs.Targets.{clipped}
+use Rattle.block.specs.Answers.{numberOf, indexOf}
+use Rattle.block.specs.Ranges.{phaseIn, frequencyIn, parameterFrequencyIn, unitIn}
+use Rattle.block.specs.Calls.{Call, refusal, run}
+use Rattle.super_square.specs.declared.State.{State}
+use Rattle.super_square.specs.declared.Rendered.{Rendered}
+use Rattle.super_square.specs.Sample.{sampleAt}
+
+-- the source's `Default`
+abbrev pub newState : State
+newState = record { «master_phase» = zero32; «slave_phase» = zero32; «next_sample» = zero32; high = false; «master_frequency» = zero32; «slave_frequency» = zero32 }
+
+-- lines 25 to 33; the slave's frequency is 0.01
+abbrev pub initState : State
+initState = record { «master_phase» = zero32; «slave_phase» = zero32; «next_sample» = zero32; high = false; «master_frequency» = zero32; «slave_frequency» = f32 0x3c23_d70a }
+
+-- 01, "State": phases at least 0 and below 1, frequencies 0 to 17/64, `next_sample` any bits
+unfoldable pub stateIn : State → Bool
+stateIn s =
+    ((phaseIn (s .«master_phase») && phaseIn (s .«slave_phase»)) && frequencyIn (s .«master_frequency»)) && frequencyIn (s .«slave_frequency»)
+
+-- 01, "Parameters": the frequency from MIN_FREQUENCY to 1, the shape from 0 to 1
+unfoldable pub parametersIn : Float → Float → Bool
+parametersIn frequency shape = parameterFrequencyIn frequency && unitIn shape
+
+-- the slave's factor, lines 38 to 42: 0.51 + 0.98 * shape below 0.5, else 1 + 16 * (shape - 0.5) * (shape - 0.5)
+abbrev pub factorOf : Float → Float
+factorOf shape =
+    cond (lt shape half32)
+    (f32 0x3f02_8f5c ⊕ f32 0x3f7a_e148 ⊗ shape)
+    (one32 ⊕ sixteen32 ⊗ (shape ⊖ half32) ⊗ (shape ⊖ half32))
+
+-- lines 52 to 54: the master's frequency moves to the parameter, the slave's to the factor's product with it
+abbrev pub interpolators : State → Float → Float → ℕ → List ParameterInterpolator
+interpolators s frequency shape n =
+    newInterpolator (s .«master_frequency») (clipped frequency) n
+    ∷ newInterpolator (s .«slave_frequency») (clipped (frequency ⊗ factorOf shape)) n
+    ∷ []
+
+abbrev pub rooms : List Room
+rooms = Frequency ∷ Frequency ∷ []
+
+-- 01's checks 1, 3, 4 and 6, in this order, and then the samples
+unfoldable pub renderOf : State → Float → Float → List Float → Call State
+renderOf s frequency shape xs =
+    cond (ltb 4096 (length xs)) (refusal 1 0 s xs)
+    (cond (not (stateIn s)) (refusal 3 0 s xs)
+    (cond (not (parametersIn frequency shape)) (refusal 4 0 s xs)
+    (run sampleAt rooms (interpolators s frequency shape (length xs)) s xs)))
+
+-- what a call returned and left in the buffer, in this paper's numbers
+abbrev pub left : Rendered → List Float → Call State
+left r xs = record { number = numberOf (r .answer); index = indexOf (r .answer); state = r .state; counts = r .counts; samples = xs }

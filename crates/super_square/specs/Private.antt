@@ -1,0 +1,45 @@
+-- What the crate's own functions ask of each other. No public contract cites it. Assumes nothing.
+use mathlib.Core.Path.{_≡_}
+use mathlib.Core.List.{List}
+use Prim.Native.Nat.{_*_, _≤_}
+use lib.ListN.{length}
+use lib.Ieee.{Float}
+use Rattle.floats.proofs.Ticks.{tick, cycle}
+use Rattle.floats.proofs.Ranges.{Under, Positive}
+use Rattle.parameter_interpolator.specs.declared.ParameterInterpolator.{ParameterInterpolator}
+use Rattle.block.specs.declared.Answer.{Answer}
+use Rattle.block.specs.declared.Found.the-variants.{Nowhere}
+use Rattle.block.specs.Counting.{noCounts}
+use Rattle.block.specs.Steps.{stepsOf, firstOutside}
+use Rattle.block.specs.Play.{play}
+use Rattle.block.specs.Calls.{Call, done}
+use Rattle.super_square.specs.declared.State.{State}
+use Rattle.super_square.specs.declared.Rendered.{Rendered}
+use Rattle.super_square.specs.Sample.{sampleAt}
+use Rattle.super_square.specs.Block.{rooms}
+
+-- both phases are binary32 values of at least 0 and below 1
+pub record Valid (s : State) : Type 0 where
+  pub master : Under (s .«master_phase») cycle
+  pub slave : Under (s .«slave_phase») cycle
+
+-- and both steps lie above 0 and are at most 17/64
+pub record Ready (s : State) (masterFrequency slaveFrequency : Float) : Type 0 where
+  pub valid : Valid s
+  pub master : Positive masterFrequency (4456448 * tick)
+  pub slave : Positive slaveFrequency (4456448 * tick)
+
+-- what is left to find out is whether a step leaves its room
+pub record Fit (s : State) (xs : List Float) : Type 0 where
+  pub short : length xs ≤ 4096
+  pub valid : Valid s
+
+pub record Playable (s : State) (ps : List ParameterInterpolator) (xs : List Float) : Type 0 where
+  pub fit : Fit s xs
+  pub inside : firstOutside rooms (stepsOf (length xs) ps) ≡ Nowhere
+
+abbrev pub playedOf : State → List ParameterInterpolator → List Float → Call State
+playedOf s ps xs = done (play sampleAt s noCounts (stepsOf (length xs) ps) xs)
+
+abbrev pub refused : Answer → State → Rendered
+refused answer s = record { answer = answer; state = s; counts = noCounts }

@@ -1,0 +1,120 @@
+-- One sample of the super square: super_square_oscillator.rs, lines 60 to 129, in its order. Assumes nothing.
+use mathlib.Core.Bool.{Bool, true, false, cond}
+use mathlib.Core.List.{List}
+use Prim.Native.Nat.{ℕ, _+_}
+use lib.ListN.{getD}
+use lib.Ieee.{Float, lt, le}
+use Rattle.floats.specs.F32.{_⊕_, _⊖_, _⊗_, _⊘_, zero32, half32, one32, two32}
+use Rattle.polyblep.specs.Polyblep.{thisBlepSample, nextBlepSample}
+use Rattle.block.specs.declared.Edge.{Edge}
+use Rattle.block.specs.Counting.{oneIf}
+use Rattle.block.specs.Crossings.{crossings}
+use Rattle.block.specs.Sync.{slaveAtReset, wrapOnce, transitionDuringReset, cutEdge}
+use Rattle.block.specs.Play.{Sample}
+use Rattle.super_square.specs.declared.State.{State}
+use Rattle.super_square.specs.declared.sample.Sampled.{Sampled}
+
+-- the square, lines 90 and 127
+abbrev pub level : Float → Float
+level phase = cond (lt phase half32) zero32 one32
+
+-- up through 0.5, lines 103 to 106
+unfoldable pub riseOf : Float → Edge → Edge
+riseOf slaveFrequency e =
+    let t = (e .phase ⊖ half32) ⊘ slaveFrequency in
+    record {
+      phase = e .phase;
+      high = true;
+      «this_sample» = e .«this_sample» ⊕ thisBlepSample t;
+      «next_sample» = e .«next_sample» ⊕ nextBlepSample t;
+      rises = e .rises + 1;
+      falls = e .falls;
+    }
+
+-- down through 1, where the phase wraps, lines 113 to 117
+unfoldable pub fallOf : Float → Edge → Edge
+fallOf slaveFrequency e =
+    let phase' = e .phase ⊖ one32 in
+    let t = phase' ⊘ slaveFrequency in
+    record {
+      phase = phase';
+      high = false;
+      «this_sample» = e .«this_sample» ⊖ thisBlepSample t;
+      «next_sample» = e .«next_sample» ⊖ nextBlepSample t;
+      rises = e .rises;
+      falls = e .falls + 1;
+    }
+
+abbrev pub crossed : Float → Edge → Edge
+crossed slaveFrequency e = crossings half32 (riseOf slaveFrequency) (fallOf slaveFrequency) e
+
+-- the slave's step, lines 65, 66 and 95: this sample starts with what the last one left for it
+unfoldable pub edgeOf : State → Float → Edge
+edgeOf s slaveFrequency = record {
+  phase = s .«slave_phase» ⊕ slaveFrequency;
+  high = s .high;
+  «this_sample» = s .«next_sample»;
+  «next_sample» = zero32;
+  rises = 0;
+  falls = 0;
+}
+
+-- the end of a sample, lines 127 to 131: s has all that the state keeps but what the next sample starts with
+unfoldable pub finish : Edge → State → ℕ → ℕ → Sampled
+finish e s cycles cuts = record {
+  state = record {
+    «master_phase» = s .«master_phase»;
+    «slave_phase» = s .«slave_phase»;
+    «next_sample» = e .«next_sample» ⊕ level (s .«slave_phase»);
+    high = s .high;
+    «master_frequency» = s .«master_frequency»;
+    «slave_frequency» = s .«slave_frequency»;
+  };
+  sample = two32 ⊗ e .«this_sample» ⊖ one32;
+  counts = record { cycles = cycles; rises = e .rises; falls = e .falls; cuts = cuts };
+}
+
+-- The phases, the side and the frequencies after a sample. The source stores the frequencies as it drops their interpolators, and what it
+-- stores is the last step. Lines 66: the next sample starts from 0.
+abbrev pub after : Float → Float → Bool → Float → Float → State
+after masterPhase slavePhase high masterFrequency slaveFrequency = record {
+  «master_phase» = masterPhase;
+  «slave_phase» = slavePhase;
+  «next_sample» = zero32;
+  high = high;
+  «master_frequency» = masterFrequency;
+  «slave_frequency» = slaveFrequency;
+}
+
+-- the edge of a sample whose master wrapped `time` samples ago, lines 77 to 120: crossed only where a transition falls before the reset
+unfoldable pub resetEdge : State → Float → Float → Edge
+resetEdge s slaveFrequency time =
+    let reached = slaveAtReset (s .«slave_phase») slaveFrequency time in
+    let e = cutEdge (level (wrapOnce reached)) time (edgeOf s slaveFrequency) in
+    cond (transitionDuringReset (s .high) half32 reached) (crossed slaveFrequency e) e
+
+-- with a reset, lines 73 to 93 and 122 to 125. 01 counts a cut where it finds `high` true just before clearing it.
+unfoldable pub resetSample : State → Float → Float → Float → Sampled
+resetSample s masterFrequency slaveFrequency masterPhase =
+    let time = masterPhase ⊘ masterFrequency in
+    let e = resetEdge s slaveFrequency time in
+    finish e (after masterPhase (time ⊗ slaveFrequency) false masterFrequency slaveFrequency) 1 (oneIf (e .high))
+
+-- without one, lines 95 to 120
+unfoldable pub plainSample : State → Float → Float → Float → Sampled
+plainSample s masterFrequency slaveFrequency masterPhase =
+    let e = crossed slaveFrequency (edgeOf s slaveFrequency) in
+    finish e (after masterPhase (e .phase) (e .high) masterFrequency slaveFrequency) 0 0
+
+unfoldable pub sampleOf : State → Float → Float → Sampled
+sampleOf s masterFrequency slaveFrequency =
+    let masterPhase = s .«master_phase» ⊕ masterFrequency in
+    cond (le one32 masterPhase)
+    (resetSample s masterFrequency slaveFrequency (masterPhase ⊖ one32))
+    (plainSample s masterFrequency slaveFrequency masterPhase)
+
+-- for a block: the steps are the master's frequency and the slave's, and what the buffer held is overwritten
+abbrev pub sampleAt : State → List Float → Float → Sample State
+sampleAt s steps x =
+    let t = sampleOf s (getD steps 0 zero32) (getD steps 1 zero32) in
+    record { state = t .state; sample = t .sample; counts = t .counts }

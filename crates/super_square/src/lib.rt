@@ -1,0 +1,173 @@
+// Two hard-synced square waves with one shape parameter: the source's oscillator/super_square_oscillator.rs.
+ghost use mathlib.Core.Path.{_≡_};
+ghost use mathlib.Core.List.{[], _∷_};
+ghost use Rattle.block.specs.Calls.{run};
+ghost use Rattle.super_square.specs.Sample.{sampleAt};
+ghost use Rattle.super_square.specs.Block.{newState, initState, stateIn, parametersIn, factorOf, rooms, renderOf, left};
+ghost use Rattle.super_square.specs.Private.{Fit, Playable, playedOf, refused};
+use block::Answer;
+use block::Counts;
+use block::Found;
+use block::Room;
+use parameter_interpolator::ParameterInterpolator;
+
+mod sample;
+
+pub struct State {
+    pub master_phase: f32,
+    pub slave_phase: f32,
+    pub next_sample: f32,
+    pub high: bool,
+    pub master_frequency: f32,
+    pub slave_frequency: f32,
+}
+
+// What a call gives.
+pub struct Rendered {
+    pub answer: Answer,
+    pub state: State,
+    pub counts: Counts,
+}
+
+pub fn new() -> State
+    ensures { λ r. ⌜ r ≡ newState ⌝ }
+{
+    State {
+        master_phase: 0.0,
+        slave_phase: 0.0,
+        next_sample: 0.0,
+        high: false,
+        master_frequency: 0.0,
+        slave_frequency: 0.0,
+    }
+}
+
+pub fn init() -> State
+    ensures { λ r. ⌜ r ≡ initState ⌝ }
+{
+    State {
+        master_phase: 0.0,
+        slave_phase: 0.0,
+        next_sample: 0.0,
+        high: false,
+        master_frequency: 0.0,
+        slave_frequency: 0.01,
+    }
+}
+
+// Renders a block into `out`, from the frequency and shape that the last block ended with to these.
+pub fn render(state: State, frequency: f32, shape: f32, out: &mut [f32]) -> Rendered
+    ensures { λ r. ⌜ left r (now (out .exit)) ≡ renderOf state frequency shape (now (out .entry)) ⌝ }
+{
+    if out.len() > 4096 {
+        return refuse(Answer::LongBlock, state);
+    }
+    if !state_in(state) {
+        return refuse(Answer::BadState, state);
+    }
+    if !parameters_in(frequency, shape) {
+        return refuse(Answer::BadParam, state);
+    }
+    let n = out.len() as u32;
+    let master_target = block::targets::clip(frequency);
+    let slave_target = block::targets::clip(frequency * factor(shape));
+    let master_fm = ParameterInterpolator::new(state.master_frequency, master_target, n);
+    let fm = ParameterInterpolator::new(state.slave_frequency, slave_target, n);
+    drift_or_play(state, master_fm, fm, out)
+}
+
+fn state_in(s: State) -> bool
+    ensures { λ r. ⌜ r ≡ stateIn s ⌝ }
+{
+    block::ranges::phase_in(s.master_phase)
+        & block::ranges::phase_in(s.slave_phase)
+        & block::ranges::frequency_in(s.master_frequency)
+        & block::ranges::frequency_in(s.slave_frequency)
+}
+
+fn parameters_in(frequency: f32, shape: f32) -> bool
+    ensures { λ r. ⌜ r ≡ parametersIn frequency shape ⌝ }
+{
+    block::ranges::parameter_frequency_in(frequency) & block::ranges::unit_in(shape)
+}
+
+fn refuse(answer: Answer, state: State) -> Rendered
+    ensures { λ r. ⌜ r ≡ refused answer state ⌝ }
+{
+    Rendered {
+        answer,
+        state,
+        counts: block::none(),
+    }
+}
+
+// How much faster the slave runs than the master.
+fn factor(shape: f32) -> f32
+    ensures { λ r. ⌜ r ≡ factorOf shape ⌝ }
+{
+    if shape < 0.5 {
+        0.51 + 0.98 * shape
+    } else {
+        1.0 + 16.0 * (shape - 0.5) * (shape - 0.5)
+    }
+}
+
+// Drift where a step leaves its room, else the samples.
+fn drift_or_play(
+    state: State,
+    master_fm: ParameterInterpolator,
+    fm: ParameterInterpolator,
+    out: &mut [f32],
+) -> Rendered
+    requires { ⌜ Fit state (now out) ⌝ }
+    ensures { λ r. ⌜ left r (now (out .exit)) ≡ run sampleAt rooms («master_fm» ∷ fm ∷ []) state (now (out .entry)) ⌝ }
+{
+    let n = out.len() as u32;
+    let still = ParameterInterpolator {
+        value: 0.0,
+        increment: 0.0,
+    };
+    let moving = [master_fm, fm, still, still, still];
+    let kept = [
+        Room::Frequency,
+        Room::Frequency,
+        Room::Unused,
+        Room::Unused,
+        Room::Unused,
+    ];
+    match block::first_outside(moving, kept, n) {
+        Found::Outside(i) => refuse(Answer::Drift(i), state),
+        Found::Nowhere => play(state, master_fm, fm, out),
+    }
+}
+
+// Every sample of the buffer.
+fn play(
+    state: State,
+    master_fm: ParameterInterpolator,
+    fm: ParameterInterpolator,
+    out: &mut [f32],
+) -> Rendered
+    requires { ⌜ Playable state («master_fm» ∷ fm ∷ []) (now out) ⌝ }
+    ensures { λ r. ⌜ left r (now (out .exit)) ≡ playedOf state («master_fm» ∷ fm ∷ []) (now (out .entry)) ⌝ }
+{
+    let mut s = state;
+    let mut master = master_fm;
+    let mut slave = fm;
+    let mut counts = block::none();
+    let mut i = 0;
+    while i < out.len() {
+        master = master.next();
+        slave = slave.next();
+        let t = sample::sample(s, master.value, slave.value);
+        out[i] = t.sample;
+        s = t.state;
+        counts = block::sum(counts, t.counts);
+        i += 1;
+    }
+    Rendered {
+        answer: Answer::Done,
+        state: s,
+        counts,
+    }
+}
