@@ -1,6 +1,6 @@
 -- Small facts of bools, for tests that are joined. Assumes nothing.
 use mathlib.Core.Path.{_≡_, refl, sym, subst}
-use mathlib.Core.Bool.{Bool, true, false, _&&_}
+use mathlib.Core.Bool.{Bool, true, false, _&&_, cond}
 use Prim.Native.Nat.{_≤_}
 use native.Mathlib.Omega.{arith}
 use lib.Dec.{T}
@@ -13,3 +13,8 @@ and-both false q h = absurd (subst T (sym h) tt)
 pub one-most : (b : Bool) → oneIf b ≤ 1
 one-most true = omega arith
 one-most false = omega arith
+
+-- what holds of both holds of the one that a test picks
+pub cond-both : {A : Type 0} (P : A → Type 0) (b : Bool) (x y : A) → P x → P y → P (cond b x y)
+cond-both P true x y p q = p
+cond-both P false x y p q = q

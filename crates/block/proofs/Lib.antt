@@ -1,7 +1,12 @@
 -- The laws of blocks that hold for every oscillator.
 pub mod Bools
+pub mod RangeLaws
 pub mod Walks
 pub mod Padding
 pub mod Plays
 pub mod Runs
+pub mod Accounts
+pub mod Limits
+pub mod CallLaws
+pub mod Contracts
 pub mod Crossings

@@ -9,3 +9,4 @@ pub mod Crossings
 pub mod Sync
 pub mod Play
 pub mod Calls
+pub mod Account

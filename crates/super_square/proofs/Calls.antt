@@ -8,8 +8,6 @@ use lib.Dec.{T}
 use lib.ListN.{length}
 use lib.Ieee.{Float, binary32, fits}
 use Rattle.floats.specs.F32.{_⊗_}
-use Rattle.floats.proofs.Ticks.{one-at}
-use Rattle.floats.proofs.Ranges.{under-of}
 use Rattle.parameter_interpolator.specs.declared.ParameterInterpolator.{ParameterInterpolator}
 use Rattle.parameter_interpolator.specs.Interpolator.{newInterpolator}
 use Rattle.block.specs.declared.Answer.the-variants.{LongBlock, BadState, BadParam, Drift}
@@ -19,6 +17,7 @@ use Rattle.block.specs.Targets.{clipped}
 use Rattle.block.specs.Steps.{stepsOf, firstOutside}
 use Rattle.block.specs.Calls.{run}
 use Rattle.block.proofs.Bools.{and-both}
+use Rattle.block.proofs.RangeLaws.{phase-under, under-phase}
 use Rattle.block.proofs.Padding.{unused, padded}
 use Rattle.block.proofs.Runs.{run-drift, run-done}
 use Rattle.super_square.specs.declared.State.{State}
@@ -43,14 +42,18 @@ module _ (s : State) (m f still : ParameterInterpolator) (xs : List Float) (foun
     pub played : (r : Rendered) (after : List Float) → left r after ≡ playedOf s (m ∷ f ∷ []) xs → left r after ≡ run sampleAt rooms (m ∷ f ∷ []) s xs
     played r after e = e ∙ sym (run-done sampleAt rooms (m ∷ f ∷ []) s xs (sym searched ∙ h))
 
--- a state that passed its test is valid
+-- a state that passed its test is valid, and the other way round
 pub valid-of : (s : State) → T (fits binary32 (s .«master_phase»)) → T (fits binary32 (s .«slave_phase»)) → stateIn s ≡ true → Valid s
 unfolding stateIn
 valid-of s a b h =
-    let p = and-both _ _ (and-both _ _ (and-both _ _ h .0) .0) in
-    let m = and-both _ _ (p .0) in
-    let f = and-both _ _ (p .1) in
-    record { master = under-of a (m .0) (m .1) one-at; slave = under-of b (f .0) (f .1) one-at }
+    let p = and-both _ _ h in
+    let q = and-both _ _ (p .0) in
+    let r = and-both _ _ (q .0) in
+    record { master = phase-under a (r .0); slave = phase-under b (r .1); master-frequency = q .1; slave-frequency = p .1 }
+
+pub of-valid : (s : State) → Valid s → stateIn s ≡ true
+unfolding stateIn
+of-valid s v = rw (under-phase (v .master), under-phase (v .slave), v .master-frequency, v .slave-frequency)
 
 module _ (s : State) (frequency shape : Float) (xs : List Float) (r : Rendered) where
   pub long-block : 4096 < length xs → r ≡ refused LongBlock s → left r xs ≡ renderOf s frequency shape xs

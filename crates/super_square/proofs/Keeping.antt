@@ -1,18 +1,20 @@
 -- A sample keeps the phases at least 0 and below 1, and counts at most one cycle, two rises, one fall and one cut. Assumes nothing.
 use mathlib.Core.Path.{_≡_, refl}
 use mathlib.Core.Bool.{Bool, true, false, cond}
-use mathlib.Core.List.{[], _∷_}
+use mathlib.Core.List.{List, [], _∷_}
 use Prim.Native.Nat.{ℕ, _+_, _*_, _≤_}
 use native.Mathlib.Omega.{arith}
+use lib.ListN.{getD}
 use lib.Ieee.{Float, le}
-use Rattle.floats.specs.F32.{_⊕_, _⊖_, _⊘_, half32, one32}
-use Rattle.floats.proofs.Ticks.{tick, cycle, one-at, tick-pos, topStep-at, Sum}
+use Rattle.floats.specs.F32.{_⊕_, _⊖_, _⊘_, zero32, half32, one32}
+use Rattle.floats.proofs.Ticks.{tick, cycle, one-at, tick-pos, Sum}
 use Rattle.floats.proofs.Turn.{Step, turn-1, turn-sum, turn-wraps, turn-stays}
-use Rattle.floats.proofs.Ranges.{Under, passed-le, failed-le, positive-of, mul-le, reset-time}
+use Rattle.floats.proofs.Ranges.{Under, passed-le, failed-le, mul-le, reset-time}
 use Rattle.block.specs.declared.Edge.{Edge}
 use Rattle.block.specs.Counting.{oneIf}
 use Rattle.block.specs.Sync.{transitionDuringReset, slaveAtReset, wrapOnce, cutEdge}
 use Rattle.block.specs.Steps.{allIn}
+use Rattle.block.proofs.RangeLaws.{frequency-step, step-frequency}
 use Rattle.block.proofs.Bools.{and-both, one-most}
 use Rattle.block.proofs.Crossings.{Crossable, Crossed, crossed-of}
 use Rattle.block.proofs.Plays.{Inside, Keeps}
@@ -24,9 +26,11 @@ use Rattle.super_square.specs.Private.{Valid, Ready}
 use Rattle.super_square.proofs.Edges.{crosses, half-narrow, edge-crossable, cut-crossable}
 
 -- what one sample does to a master's phase of a units with a step of b, and to all else
-pub record Law (s : State) (a b : ℕ) (t : Sampled) : Type 0 where
+pub record Law (s : State) (masterFrequency slaveFrequency : Float) (a b : ℕ) (t : Sampled) : Type 0 where
   pub master : Step (t .state .«master_phase») (t .counts .cycles) a b cycle tick cycle
   pub slave : Under (t .state .«slave_phase») cycle
+  pub master-frequency : t .state .«master_frequency» ≡ masterFrequency
+  pub slave-frequency : t .state .«slave_frequency» ≡ slaveFrequency
   pub rises : t .counts .rises ≤ 2
   pub falls : t .counts .falls ≤ 1
   pub cuts : t .counts .cuts ≤ 1
@@ -39,13 +43,15 @@ module _ (s : State) (masterFrequency slaveFrequency : Float) (h : Ready s maste
   all-crossed : (e : Edge) → Crossable e → Crossed (e .high) (crossed slaveFrequency e)
   all-crossed e k = crossed-of half32 _ _ (crosses slaveFrequency) half-narrow e k
 
-  plain-law : le one32 (s .«master_phase» ⊕ masterFrequency) ≡ false → Law s (h .valid .master .n) (h .master .n) (plainSample s masterFrequency slaveFrequency (s .«master_phase» ⊕ masterFrequency))
+  plain-law : le one32 (s .«master_phase» ⊕ masterFrequency) ≡ false → Law s masterFrequency slaveFrequency (h .valid .master .n) (h .master .n) (plainSample s masterFrequency slaveFrequency (s .«master_phase» ⊕ masterFrequency))
   unfolding plainSample finish edgeOf
   plain-law l =
       let c = all-crossed (edgeOf s slaveFrequency) (edge-crossable h) in
       record {
         master = turn-stays turn-1 sum (failed-le one-at (sum .at) l);
         slave = c .phase;
+        master-frequency = refl;
+        slave-frequency = refl;
         rises = c .rises;
         falls = c .falls;
         cuts = omega arith;
@@ -66,7 +72,7 @@ module _ (s : State) (masterFrequency slaveFrequency : Float) (h : Ready s maste
       let e = cutEdge (level (wrapOnce reached)) time (edgeOf s slaveFrequency) in
       reset-crossed (resetEdge s slaveFrequency time) e (transitionDuringReset (s .high) half32 reached) (cut-crossable (level (wrapOnce reached)) time (edgeOf s slaveFrequency) e refl (edge-crossable h)) refl
 
-  reset-law : le one32 (s .«master_phase» ⊕ masterFrequency) ≡ true → Law s (h .valid .master .n) (h .master .n) (resetSample s masterFrequency slaveFrequency (s .«master_phase» ⊕ masterFrequency ⊖ one32))
+  reset-law : le one32 (s .«master_phase» ⊕ masterFrequency) ≡ true → Law s masterFrequency slaveFrequency (h .valid .master .n) (h .master .n) (resetSample s masterFrequency slaveFrequency (s .«master_phase» ⊕ masterFrequency ⊖ one32))
   unfolding resetSample finish
   reset-law l =
       let masterPhase = s .«master_phase» ⊕ masterFrequency ⊖ one32 in
@@ -76,18 +82,20 @@ module _ (s : State) (masterFrequency slaveFrequency : Float) (h : Ready s maste
       record {
         master = turn-wraps turn-1 sum (passed-le one-at (sum .at) l);
         slave = record { n = slave .n; at = slave .at; under = omega (arith, slave .most, h .slave .most, tick-pos) };
+        master-frequency = refl;
+        slave-frequency = refl;
         rises = c .0;
         falls = c .1;
         cuts = one-most (resetEdge s slaveFrequency (masterPhase ⊘ masterFrequency) .high);
         balance = omega (arith, c .2);
       }
 
-  pub sample-law : Law s (h .valid .master .n) (h .master .n) (sampleOf s masterFrequency slaveFrequency)
+  pub sample-law : Law s masterFrequency slaveFrequency (h .valid .master .n) (h .master .n) (sampleOf s masterFrequency slaveFrequency)
   unfolding sampleOf
   sample-law = go (le one32 (s .«master_phase» ⊕ masterFrequency)) refl
     where
       go : (t : Bool) → le one32 (s .«master_phase» ⊕ masterFrequency) ≡ t
-          → Law s (h .valid .master .n) (h .master .n)
+          → Law s masterFrequency slaveFrequency (h .valid .master .n) (h .master .n)
           (cond t (resetSample s masterFrequency slaveFrequency (s .«master_phase» ⊕ masterFrequency ⊖ one32)) (plainSample s masterFrequency slaveFrequency (s .«master_phase» ⊕ masterFrequency)))
       go true l = reset-law l
       go false l = plain-law l
@@ -97,17 +105,26 @@ pub ready-of : (s : State) (masterFrequency slaveFrequency : Float) → Valid s 
 unfolding allIn
 ready-of s m f v i =
     let r = and-both _ _ (i .rooms) in
-    let p = and-both _ _ (r .0) in
-    let q = and-both _ _ (and-both _ _ (r .1) .0) in
-    record { valid = v; master = positive-of (i .fit .0) (p .0) (p .1) topStep-at; slave = positive-of (i .fit .1 .0) (q .0) (q .1) topStep-at }
+    record { valid = v; master = frequency-step (i .fit .0) (r .0); slave = frequency-step (i .fit .1 .0) (and-both _ _ (r .1) .0) }
+
+-- a sample's law, for the steps as a list
+pub law-of : (s : State) (steps : List Float) → Valid s → Inside rooms steps
+    → (h : Ready s (getD steps 0 zero32) (getD steps 1 zero32)) × Law s (getD steps 0 zero32) (getD steps 1 zero32) (h .valid .master .n) (h .master .n) (sampleOf s (getD steps 0 zero32) (getD steps 1 zero32))
+law-of s [] v i = absurd (omega (arith, i .long))
+law-of s (m ∷ []) v i = absurd (omega (arith, i .long))
+law-of s (m ∷ f ∷ []) v i = let h = ready-of s m f v i in (h, sample-law s m f h)
+law-of s (m ∷ f ∷ g ∷ rest) v i = absurd (omega (arith, i .long))
 
 pub keeps : Keeps sampleAt rooms Valid
-keeps s [] x v i = absurd (omega (arith, i .long))
-keeps s (m ∷ []) x v i = absurd (omega (arith, i .long))
-keeps s (m ∷ f ∷ []) x v i =
-    let l = sample-law s m f (ready-of s m f v i) in
+keeps s steps x v i =
+    let r = law-of s steps v i in
+    let l = r .1 in
     record {
-      ok = record { master = record { n = l .master .n; at = l .master .at; under = l .master .stays }; slave = l .slave };
+      ok = record {
+        master = record { n = l .master .n; at = l .master .at; under = l .master .stays };
+        slave = l .slave;
+        master-frequency = rw (l .master-frequency) (step-frequency (r .0 .master));
+        slave-frequency = rw (l .slave-frequency) (step-frequency (r .0 .slave));
+      };
       few = record { cycles = l .master .once; rises = l .rises; falls = l .falls; cuts = l .cuts };
     }
-keeps s (m ∷ f ∷ g ∷ rest) x v i = absurd (omega (arith, i .long))

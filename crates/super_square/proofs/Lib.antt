@@ -3,3 +3,5 @@ pub mod Edges
 pub mod Keeping
 pub mod Loop
 pub mod Calls
+pub mod Phase
+pub mod Tight

@@ -2,9 +2,9 @@
 use mathlib.Core.Bool.{Bool, false, not, _&&_, cond}
 use mathlib.Core.List.{List, [], _∷_}
 use Prim.Native.Nat.{ℕ}
-use lib.Dec.{ltb}
+use lib.Dec.{T, ltb}
 use lib.ListN.{length}
-use lib.Ieee.{Float, lt}
+use lib.Ieee.{Float, binary32, fits, lt}
 use Rattle.floats.specs.F32.{_⊕_, _⊖_, _⊗_, f32, zero32, half32, one32, sixteen32}
 use Rattle.parameter_interpolator.specs.declared.ParameterInterpolator.{ParameterInterpolator}
 use Rattle.parameter_interpolator.specs.Interpolator.{newInterpolator}
@@ -14,6 +14,7 @@ use Rattle.block.specs.Targets.{clipped}
 use Rattle.block.specs.Answers.{numberOf, indexOf}
 use Rattle.block.specs.Ranges.{phaseIn, frequencyIn, parameterFrequencyIn, unitIn}
 use Rattle.block.specs.Calls.{Call, refusal, run}
+use Rattle.block.specs.Account.{usedBy}
 use Rattle.super_square.specs.declared.State.{State}
 use Rattle.super_square.specs.declared.Rendered.{Rendered}
 use Rattle.super_square.specs.Sample.{sampleAt}
@@ -63,3 +64,19 @@ renderOf s frequency shape xs =
 -- what a call returned and left in the buffer, in this paper's numbers
 abbrev pub left : Rendered → List Float → Call State
 left r xs = record { number = numberOf (r .answer); index = indexOf (r .answer); state = r .state; counts = r .counts; samples = xs }
+
+-- for chains: one call's arguments, the call, and the steps of the master's frequency that it used
+pub record Arguments : Type 0 where
+  pub frequency : Float
+  pub shape : Float
+  pub buffer : List Float
+
+abbrev pub callOf : State → Arguments → Call State
+callOf s a = renderOf s (a .frequency) (a .shape) (a .buffer)
+
+abbrev pub usedOf : State → Arguments → List Float
+usedOf s a = usedBy (callOf s a) 0 (length (a .buffer)) (interpolators s (a .frequency) (a .shape) (length (a .buffer)))
+
+-- the state's phases are binary32 values, as those of every `State` of a program are
+abbrev pub Phases32 : State → Type 0
+Phases32 s = T (fits binary32 (s .«master_phase»)) × T (fits binary32 (s .«slave_phase»))

@@ -1,5 +1,6 @@
 -- What the crate's own functions ask of each other. No public contract cites it. Assumes nothing.
 use mathlib.Core.Path.{_≡_}
+use mathlib.Core.Bool.{true}
 use mathlib.Core.List.{List}
 use Prim.Native.Nat.{_*_, _≤_}
 use lib.ListN.{length}
@@ -10,6 +11,7 @@ use Rattle.parameter_interpolator.specs.declared.ParameterInterpolator.{Paramet
 use Rattle.block.specs.declared.Answer.{Answer}
 use Rattle.block.specs.declared.Found.the-variants.{Nowhere}
 use Rattle.block.specs.Counting.{noCounts}
+use Rattle.block.specs.Ranges.{frequencyIn}
 use Rattle.block.specs.Steps.{stepsOf, firstOutside}
 use Rattle.block.specs.Play.{play}
 use Rattle.block.specs.Calls.{Call, done}
@@ -18,10 +20,12 @@ use Rattle.super_square.specs.declared.Rendered.{Rendered}
 use Rattle.super_square.specs.Sample.{sampleAt}
 use Rattle.super_square.specs.Block.{rooms}
 
--- both phases are binary32 values of at least 0 and below 1
+-- both phases are binary32 values of at least 0 and below 1, and the frequencies pass their test
 pub record Valid (s : State) : Type 0 where
   pub master : Under (s .«master_phase») cycle
   pub slave : Under (s .«slave_phase») cycle
+  pub master-frequency : frequencyIn (s .«master_frequency») ≡ true
+  pub slave-frequency : frequencyIn (s .«slave_frequency») ≡ true
 
 -- and both steps lie above 0 and are at most 17/64
 pub record Ready (s : State) (masterFrequency slaveFrequency : Float) : Type 0 where

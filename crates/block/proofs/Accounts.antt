@@ -1,0 +1,154 @@
+-- Demand 3 for any oscillator: from the law of one sample to a block, and from blocks to any chain of calls, in which refused and empty blocks add nothing.
+-- Assumes nothing.
+use mathlib.Core.Path.{_≡_, refl, sym, _∙_, subst}
+use mathlib.Core.Logic.{_⊎_, ⊎-elim}
+use mathlib.Core.List.{List, [], _∷_, _++_}
+use Prim.Native.Nat.{ℕ, zero, suc, _+_, _*_, zero-le}
+use native.Mathlib.Nat.{zero-add, add-zero, add-assoc, zero-mul}
+use native.Mathlib.Omega.{arith}
+use lib.IntN.{pos, _+ℤ_, pos-+ℤ-pos, +ℤ-idl, +ℤ-idr, +ℤ-invr}
+use lib.ListN.{length, getD, length-append}
+use lib.Ieee.{Float}
+use Rattle.floats.specs.F32.{zero32}
+use Rattle.floats.proofs.Rounding.{Within}
+use Rattle.floats.proofs.At.{At, at-units, at-unique}
+use Rattle.floats.proofs.Integers.{within→abs}
+use Rattle.parameter_interpolator.specs.declared.ParameterInterpolator.{ParameterInterpolator}
+use Rattle.block.specs.declared.Counts.{Counts}
+use Rattle.block.specs.declared.Room.{Room}
+use Rattle.block.specs.declared.Found.the-variants.{Nowhere}
+use Rattle.block.specs.Counting.{plus}
+use Rattle.block.specs.Steps.{moved, values, stepsOf, firstOutside}
+use Rattle.block.specs.Play.{Sample, Heard, play}
+use Rattle.block.specs.Calls.{Call}
+use Rattle.block.specs.Account.{sumUnits, Accounted, column, chain}
+use Rattle.block.proofs.Padding.{moved-length}
+use Rattle.block.proofs.Plays.{Inside, Keeps, nowhere-first}
+
+-- the values of a list of steps, each not below zero, come to n units
+pub data Sums : List Float → ℕ → Type 0 where
+  none : Sums [] 0
+  more : {x : Float} {xs : List Float} {a n : ℕ} → At x a → Sums xs n → Sums (x ∷ xs) (a + n)
+
+pub sums-units : {xs : List Float} {n : ℕ} → Sums xs n → sumUnits xs ≡ pos n
+unfolding sumUnits
+sums-units none = refl
+sums-units (more {a = a} {n = n} p s) = rw (at-units p, sums-units s) (pos-+ℤ-pos a n)
+
+pub sums-both : {xs ys : List Float} {m n : ℕ} → Sums xs m → Sums ys n → Sums (xs ++ ys) (m + n)
+sums-both {ys = ys} {n = k} none t = subst (Sums ys) (sym (zero-add k)) t
+sums-both {ys = ys} {n = k} (more {x = x} {xs = xs} {a = a} {n = n} p s) t = subst (Sums (x ∷ xs ++ ys)) (sym (add-assoc a n k)) (more p (sums-both s t))
+
+-- what demand 3 asks, from natural numbers
+pub accounted : {first last : Float} {a b n : ℕ} {steps : List Float} (w e cycles : ℕ) → At first a → At last b → Sums steps n → Within (cycles * w + b) (a + n) (length steps * e) → Accounted w e first cycles last steps
+accounted {a = a} {b = b} {n = n} {steps = steps} w e cycles p q s h = rw (at-units p, at-units q, sums-units s, pos-+ℤ-pos (cycles * w) b, pos-+ℤ-pos a n) (within→abs (cycles * w + b) (a + n) (length steps * e) h)
+
+-- where nothing moved and nothing was counted
+pub nothing : (w e : ℕ) (p : Float) → Accounted w e p 0 p []
+unfolding sumUnits
+nothing w e p = rw (zero-mul w, +ℤ-idl, +ℤ-idr, +ℤ-invr) zero-le
+
+-- What an oscillator brings: the law of one sample, for the phase whose wraps are its cycles of w units and the step that moves it, the k-th of a sample's.
+pub record OneSample (w e : ℕ) (first step : Float) (cycles : ℕ) (last : Float) : Type 0 where
+  pub a : ℕ
+  pub b : ℕ
+  pub n : ℕ
+  pub first-at : At first a
+  pub step-at : At step b
+  pub last-at : At last n
+  pub account : Within (cycles * w + n) (a + b) e
+
+-- the same of a run of samples
+pub record Steps (w e : ℕ) (first : Float) (cycles : ℕ) (last : Float) (steps : List Float) : Type 0 where
+  pub a : ℕ
+  pub b : ℕ
+  pub n : ℕ
+  pub first-at : At first a
+  pub sums : Sums steps n
+  pub last-at : At last b
+  pub account : Within (cycles * w + b) (a + n) (length steps * e)
+
+pub steps-accounted : {w e cycles : ℕ} {first last : Float} {steps : List Float} → Steps w e first cycles last steps → Accounted w e first cycles last steps
+steps-accounted {w} {e} {cycles} r = accounted w e cycles (r .first-at) (r .last-at) (r .sums) (r .account)
+
+-- runs joined: the errors add up
+join : (w e c k a b d x y l m : ℕ) → Within (c * w + b) (a + x) (l * e) → Within (k * w + d) (b + y) (m * e) → Within ((c + k) * w + d) (a + (x + y)) ((l + m) * e)
+join w e c k a b d x y l m p q = omega arith
+
+pub steps-join : {w e c k : ℕ} {p q r : Float} {xs ys : List Float} → Steps w e p c q xs → Steps w e q k r ys → Steps w e p (c + k) r (xs ++ ys)
+steps-join {w} {e} {c} {k} {xs = xs} {ys = ys} s t =
+    let same : s .b ≡ t .a = at-unique (s .last-at) (t .first-at) in
+    record {
+      a = s .a;
+      b = t .b;
+      n = s .n + t .n;
+      first-at = s .first-at;
+      sums = sums-both (s .sums) (t .sums);
+      last-at = t .last-at;
+      account = rw (length-append xs ys)
+          (join w e c k (s .a) (s .b) (t .b) (s .n) (t .n) (length xs) (length ys) (s .account) (subst (λ (i : ℕ). Within (k * w + t .b) (i + t .n) (length ys * e)) (sym same) (t .account)));
+    }
+
+pub steps-none : {p : Float} {a : ℕ} (w e : ℕ) → At p a → Steps w e p 0 p []
+steps-none {a = a} w e p = record { a = a; b = a; n = 0; first-at = p; sums = none; last-at = p; account = omega arith }
+
+pub steps-one : {w e cycles : ℕ} {p f q : Float} → OneSample w e p f cycles q → Steps w e p cycles q (f ∷ [])
+steps-one r = record { a = r .a; b = r .n; n = r .b + 0; first-at = r .first-at; sums = more (r .step-at) none; last-at = r .last-at; account = omega (arith, r .account) }
+
+-- ---- a block
+module _ {S : Type 0} (make : S → List Float → Float → Sample S) (rooms : List Room) (Ok : S → Type 0) (keeps : Keeps make rooms Ok) (phase : S → Float) (k w e : ℕ)
+    (one : (s : S) (steps : List Float) (x : Float) → Ok s → Inside rooms steps → OneSample w e (phase s) (getD steps k zero32) (make s steps x .counts .cycles) (phase (make s steps x .state)))
+    (at : (s : S) → Ok s → (n : ℕ) × At (phase s) n) where
+  -- what a run leaves, from the counts c on
+  pub record Leaves (s : S) (c : Counts) (used : List Float) (h : Heard S) : Type 0 where
+    pub ok : Ok (h .state)
+    pub cycles : ℕ
+    pub counted : h .counts .cycles ≡ c .cycles + cycles
+    pub steps : Steps w e (phase s) cycles (phase (h .state)) used
+
+  pub block-law : (m : ℕ) (ps : List ParameterInterpolator) (xs : List Float) (s : S) (c : Counts) → length xs ≡ m → length ps ≡ length rooms → firstOutside rooms (stepsOf m ps) ≡ Nowhere → Ok s
+      → Leaves s c (column k (stepsOf m ps)) (play make s c (stepsOf m ps) xs)
+  unfolding play stepsOf column
+  block-law zero ps xs s c l q i o = record { ok = o; cycles = 0; counted = sym (add-zero (c .cycles)); steps = steps-none w e (at s o .1) }
+  block-law (suc m) ps [] s c l q i o = absurd (omega arith)
+  block-law (suc m) ps (x ∷ xs) s c l q i o =
+      let f = nowhere-first rooms m ps q i in
+      let t = make s (values (moved ps)) x in
+      let g = one s (values (moved ps)) x o (f .0) in
+      let r = block-law m (moved ps) xs (t .state) (plus c (t .counts)) (omega arith) (moved-length ps ∙ q) (f .1) (keeps s (values (moved ps)) x o (f .0) .ok) in
+      record { ok = r .ok; cycles = t .counts .cycles + r .cycles; counted = r .counted ∙ add-assoc (c .cycles) (t .counts .cycles) (r .cycles); steps = steps-join (steps-one g) (r .steps) }
+
+-- ---- any chain of calls. From a state that every call refuses nothing is ever counted; from another, each call's law joins.
+pub record CallLaw {S : Type 0} (Ok : S → Type 0) (phase : S → Float) (w e : ℕ) (s : S) (used : List Float) (c : Call S) : Type 0 where
+  pub ok : Ok (c .state)
+  pub steps : Steps w e (phase s) (c .counts .cycles) (phase (c .state)) used
+
+pub record Untouched {S : Type 0} (s : S) (used : List Float) (c : Call S) : Type 0 where
+  pub state : c .state ≡ s
+  pub cycles : c .counts .cycles ≡ 0
+  pub none-used : used ≡ []
+
+module _ {S A : Type 0} (call : S → A → Call S) (used : S → A → List Float) (Ok : S → Type 0) (phase : S → Float) (w e : ℕ) where
+  pub chain-law : ((s : S) (a : A) → Ok s → CallLaw Ok phase w e s (used s a) (call s a)) → ((s : S) → Ok s → (n : ℕ) × At (phase s) n)
+      → (s : S) (calls : List A) → Ok s → (let r = chain call used s calls in Ok (r .state) × Steps w e (phase s) (r .cycles) (phase (r .state)) (r .steps))
+  unfolding chain
+  chain-law law at s [] o = (o, steps-none w e (at s o .1))
+  chain-law law at s (a ∷ calls) o =
+      let l = law s a o in
+      let r = chain-law law at (call s a .state) calls (l .ok) in
+      (r .0, steps-join (l .steps) (r .1))
+
+  pub chain-refused : (s : S) → ((a : A) → Untouched s (used s a) (call s a)) → (calls : List A) → chain call used s calls ≡ record { state = s; cycles = 0; steps = [] }
+  unfolding chain
+  chain-refused s law [] = refl
+  chain-refused s law (a ∷ calls) = let u = law a in rw (u .state, u .cycles, u .none-used, chain-refused s law calls)
+
+-- demand 3, for any chain from any state that is Ok or refused
+module _ {S A : Type 0} (call : S → A → Call S) (used : S → A → List Float) (Ok : S → Type 0) (phase : S → Float) (w e : ℕ)
+    (law : (s : S) (a : A) → Ok s → CallLaw Ok phase w e s (used s a) (call s a)) (at : (s : S) → Ok s → (n : ℕ) × At (phase s) n) where
+  pub demand-3 : (s : S) (calls : List A) → Ok s ⊎ ((a : A) → Untouched s (used s a) (call s a))
+      → (let r = chain call used s calls in Accounted w e (phase s) (r .cycles) (phase (r .state)) (r .steps))
+  demand-3 s calls o = ⊎-elim
+      (λ (o : Ok s). steps-accounted (chain-law call used Ok phase w e law at s calls o .1))
+      (λ (u : (a : A) → Untouched s (used s a) (call s a)). rw (chain-refused call used Ok phase w e s u calls) (nothing w e (phase s)))
+      o

@@ -1,0 +1,45 @@
+-- What a block counts at most, and the balance of its crossings, from the same of one sample. For any oscillator. Assumes nothing.
+use mathlib.Core.Path.{_≡_, _∙_, subst}
+use mathlib.Core.Bool.{Bool}
+use mathlib.Core.List.{List, [], _∷_}
+use Prim.Native.Nat.{ℕ, zero, suc, _+_}
+use native.Mathlib.Omega.{arith}
+use lib.ListN.{length}
+use lib.Ieee.{Float}
+use Rattle.parameter_interpolator.specs.declared.ParameterInterpolator.{ParameterInterpolator}
+use Rattle.block.specs.declared.Counts.{Counts}
+use Rattle.block.specs.declared.Room.{Room}
+use Rattle.block.specs.declared.Found.the-variants.{Nowhere}
+use Rattle.block.specs.Counting.{plus}
+use Rattle.block.specs.Steps.{moved, values, stepsOf, firstOutside}
+use Rattle.block.specs.Play.{Sample, play}
+use Rattle.block.specs.Account.{Balanced}
+use Rattle.block.proofs.Padding.{moved-length}
+use Rattle.block.proofs.Plays.{Few, few-more, Inside, Keeps, nowhere-first}
+
+module _ {S : Type 0} (make : S → List Float → Float → Sample S) (rooms : List Room) (Ok : S → Type 0) (keeps : Keeps make rooms Ok) where
+  -- m samples more than the i that c was counted in
+  pub block-few : (m i : ℕ) (ps : List ParameterInterpolator) (xs : List Float) (s : S) (c : Counts) → length xs ≡ m → length ps ≡ length rooms → firstOutside rooms (stepsOf m ps) ≡ Nowhere → Ok s
+      → Few i c → Few (i + m) (play make s c (stepsOf m ps) xs .counts)
+  unfolding play stepsOf
+  block-few zero i ps xs s c l q h o f = subst (λ (k : ℕ). Few k c) (omega arith) f
+  block-few (suc m) i ps [] s c l q h o f = absurd (omega arith)
+  block-few (suc m) i ps (x ∷ xs) s c l q h o f =
+      let g = nowhere-first rooms m ps q h in
+      let t = make s (values (moved ps)) x in
+      let k = keeps s (values (moved ps)) x o (g .0) in
+      let e : i + 1 + m ≡ i + suc m = omega arith in
+      subst (λ (n : ℕ). Few n (play make (t .state) (plus c (t .counts)) (stepsOf m (moved ps)) xs .counts)) e
+      (block-few m (i + 1) (moved ps) xs (t .state) (plus c (t .counts)) (omega arith) (moved-length ps ∙ q) (g .1) (k .ok) (few-more f (k .few)))
+
+  module _ (high : S → Bool) (one : (s : S) (steps : List Float) (x : Float) → Ok s → Inside rooms steps → Balanced (high s) (make s steps x .counts) (high (make s steps x .state))) where
+    pub block-balance : (m : ℕ) (before : Bool) (ps : List ParameterInterpolator) (xs : List Float) (s : S) (c : Counts) → length xs ≡ m → length ps ≡ length rooms → firstOutside rooms (stepsOf m ps) ≡ Nowhere
+        → Ok s → Balanced before c (high s) → (let h = play make s c (stepsOf m ps) xs in Balanced before (h .counts) (high (h .state)))
+    unfolding play stepsOf
+    block-balance zero before ps xs s c l q h o b = b
+    block-balance (suc m) before ps [] s c l q h o b = absurd (omega arith)
+    block-balance (suc m) before ps (x ∷ xs) s c l q h o b =
+        let g = nowhere-first rooms m ps q h in
+        let t = make s (values (moved ps)) x in
+        block-balance m before (moved ps) xs (t .state) (plus c (t .counts)) (omega arith) (moved-length ps ∙ q) (g .1) (keeps s (values (moved ps)) x o (g .0) .ok)
+        (omega (arith, b, one s (values (moved ps)) x o (g .0)))

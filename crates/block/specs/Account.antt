@@ -1,0 +1,52 @@
+-- Demand 3, in words that fit every oscillator: what a chain of calls counts, and what it is held against. Assumes nothing.
+use mathlib.Core.Bool.{Bool, cond}
+use mathlib.Core.List.{List, [], _∷_, _++_}
+use mathlib.Core.Path.{_≡_}
+use Prim.Native.Nat.{ℕ, _+_, _*_, _≤_}
+use lib.Dec.{eqb}
+use lib.IntN.{ℤ, pos, natAbs, _+ℤ_, _-ℤ_}
+use lib.ListN.{length, getD}
+use lib.Ieee.{Float}
+use Rattle.floats.specs.F32.{zero32}
+use Rattle.floats.specs.Units.{units}
+use Rattle.parameter_interpolator.specs.declared.ParameterInterpolator.{ParameterInterpolator}
+use Rattle.block.specs.declared.Counts.{Counts}
+use Rattle.block.specs.Counting.{oneIf}
+use Rattle.block.specs.Steps.{stepsOf}
+use Rattle.block.specs.Calls.{Call}
+
+-- the exact sum of floats, in units of 2 ^ -149
+unfoldable pub sumUnits : List Float → ℤ
+sumUnits [] = pos 0
+sumUnits (x ∷ xs) = units x +ℤ sumUnits xs
+
+-- "the cycles counted, plus the last phase, less the first, differ from the exact sum of the frequency steps used by at most" e for each step;
+-- a cycle is w units
+abbrev pub Accounted : ℕ → ℕ → Float → ℕ → Float → List Float → Type 0
+Accounted w e first cycles last steps = natAbs ((pos (cycles * w) +ℤ units last) -ℤ (units first +ℤ sumUnits steps)) ≤ length steps * e
+
+-- the k-th parameter's steps
+unfoldable pub column : ℕ → List (List Float) → List Float
+column k [] = []
+column k (steps ∷ rest) = getD steps k zero32 ∷ column k rest
+
+-- the steps of the k-th parameter that a call on n samples used: none where it was refused
+abbrev pub usedBy : {S : Type 0} → Call S → ℕ → ℕ → List ParameterInterpolator → List Float
+usedBy c k n ps = cond (eqb (c .number) 0) (column k (stepsOf n ps)) []
+
+-- calls one after the other, each from the state left before
+pub record Chained (S : Type 0) : Type 0 where
+  pub state : S
+  pub cycles : ℕ
+  pub steps : List Float
+
+unfoldable pub chain : {S A : Type 0} → (S → A → Call S) → (S → A → List Float) → S → List A → Chained S
+chain call used s [] = record { state = s; cycles = 0; steps = [] }
+chain call used s (a ∷ rest) =
+    let c = call s a in
+    let r = chain call used (c .state) rest in
+    record { state = r .state; cycles = c .counts .cycles + r .cycles; steps = used s a ++ r .steps }
+
+-- 01: "rises - falls - cuts equals `high` after less `high` before, taken as 1 or 0"
+abbrev pub Balanced : Bool → Counts → Bool → Type 0
+Balanced before c after = c .rises + oneIf before ≡ c .falls + c .cuts + oneIf after
