@@ -72,7 +72,7 @@ off-16 n h = rnd-off n 128 h
 gap : (k j : ℕ) → 23 + k < 24 + j → k ≤ j
 gap k j h = omega arith
 
-pow-lt-inv : (i j : ℕ) → 2 ^ i < 2 ^ j → i < j
+pub pow-lt-inv : (i j : ℕ) → 2 ^ i < 2 ^ j → i < j
 pow-lt-inv i j h = lt-of-not-le (λ (g : j ≤ i). not-le-of-lt h (pow-mono g))
 
 -- a value of binary32 from 2 ^ (23 + k) units up is a multiple of 2 ^ k

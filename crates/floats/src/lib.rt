@@ -1,5 +1,6 @@
-// Rust's f32::min, max, clamp and abs, worked out with comparisons, and a float from any bit pattern.
+// Rust's f32::min, max, clamp and abs, worked out with comparisons, and floats from and to bit patterns.
 ghost use mathlib.Core.Path.{_≡_};
+ghost use lib.Ieee.{binary32, toBits};
 ghost use Rattle.floats.specs.F32.{f32};
 ghost use Rattle.floats.specs.Helpers.{minOf, maxOf, atLeast, clampOf, absOf};
 
@@ -51,4 +52,11 @@ pub fn from_bits(bits: u32) -> f32
     } else {
         f32::from_bits(bits)
     }
+}
+
+// The pattern of any float. f32::to_bits is undefined at a NaN, for which this gives the quiet one without a sign.
+pub fn to_bits(x: f32) -> u32
+    ensures { λ r. ⌜ r ≡ toBits binary32 x ⌝ }
+{
+    if x != x { 0x7fc0_0000 } else { f32::to_bits(x) }
 }

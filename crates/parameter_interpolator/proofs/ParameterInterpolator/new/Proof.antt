@@ -7,7 +7,7 @@ nearest-u32-to-f32-requires : tie.Need-nearest-u32-to-f32-requires
 nearest-u32-to-f32-requires c κs = search needs
 
 returns : tie.Need-returns
-returns c = cc
+returns c = rw (c .nearest-u32-to-f32 .ensures)
 
 pub new-spec : {M : Type 1} → statement M
 new-spec = tie.close (tie.spec nearest-u32-to-f32-requires returns)

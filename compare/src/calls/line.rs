@@ -1,0 +1,68 @@
+//! The buffer before a call, and the line that tells what the call left.
+
+use super::model::Outcome;
+
+/// The bits that stand for every NaN, since which NaN an operation gives is left open.
+const NAN: u32 = 0x7fc0_0000;
+
+/// The buffer before a call: sample i holds (i mod 8 + 1) / 4.
+pub fn buffer(length: usize) -> Vec<f32> {
+    (0..length).map(|i| (i % 8 + 1) as f32 / 4.0).collect()
+}
+
+/// The same word for every NaN. The whole numbers and bools of a state are too small to look like
+/// one.
+pub fn canonical(word: u32) -> u32 {
+    if f32::from_bits(word).is_nan() {
+        NAN
+    } else {
+        word
+    }
+}
+
+pub fn checksum(samples: &[f32]) -> u32 {
+    let step = |sum: u64, sample: &f32| {
+        (sum * 1_000_003 + u64::from(canonical(sample.to_bits()))) % 4_294_967_291
+    };
+    samples.iter().fold(0, step) as u32
+}
+
+/// Answer, index, counts, state words, checksum. Refused state words are printed as given.
+pub fn line(outcome: &Outcome, samples: &[f32]) -> String {
+    let counts = outcome.counts;
+    let mut line = format!(
+        "{} {} {} {} {} {}",
+        outcome.answer, outcome.index, counts.cycles, counts.rises, counts.falls, counts.cuts
+    );
+    for &word in &outcome.words {
+        let word = match outcome.answer {
+            0 => canonical(word),
+            _ => word,
+        };
+        line += &format!(" {word:08x}");
+    }
+    line + &format!(" {:08x}", checksum(samples))
+}
+
+#[cfg(test)]
+mod tests {
+    use super::*;
+
+    #[test]
+    fn the_checksum_follows_its_rule() {
+        assert_eq!(checksum(&[]), 0);
+        assert_eq!(checksum(&[0.25]), 0x3e80_0000);
+        let two = (0x3e80_0000u64 * 1_000_003 + 0x3f00_0000) % 4_294_967_291;
+        assert_eq!(u64::from(checksum(&buffer(2))), two);
+        let nan = f32::from_bits(0xff80_0001);
+        assert_eq!(checksum(&[nan]), NAN);
+    }
+
+    #[test]
+    fn the_buffer_counts_to_two() {
+        assert_eq!(
+            buffer(9),
+            [0.25, 0.5, 0.75, 1.0, 1.25, 1.5, 1.75, 2.0, 0.25]
+        );
+    }
+}

@@ -1,0 +1,16 @@
+//! The calls of the five oscillators: records, the lines that they are answered with, and the
+//! second implementation that is held against the ported Rust.
+
+pub mod expect;
+mod kinds;
+mod line;
+pub mod make;
+mod model;
+mod original;
+pub mod record;
+pub mod stats;
+
+pub use kinds::Kinds;
+
+#[cfg(test)]
+mod tests;

@@ -1,0 +1,118 @@
+//! What all calls share: the checks in their order, the search for a step outside its room, and the
+//! play of the buffer.
+
+use super::ramp::{first_outside, Ramp};
+use crate::calls::record::Record;
+
+const LONGEST_BLOCK: usize = 4096;
+
+#[derive(Clone, Copy, Debug, Default, PartialEq)]
+pub struct Counts {
+    pub cycles: u32,
+    pub rises: u32,
+    pub falls: u32,
+    pub cuts: u32,
+}
+
+/// What a call gives back, beside the samples.
+#[derive(Debug)]
+pub struct Outcome {
+    pub answer: usize,
+    /// The sample of a Drift, else 0.
+    pub index: usize,
+    pub counts: Counts,
+    pub words: Vec<u32>,
+    /// How many samples have a rise, a fall and a rise.
+    pub double_rises: usize,
+}
+
+/// One oscillator: its state, of which `RAMPS` fields are interpolated.
+pub trait Oscillator<const RAMPS: usize>: Copy {
+    /// The state that the words stand for; nothing where a word stands for no value.
+    fn from_words(words: &[u32]) -> Option<Self>;
+    fn to_words(self) -> Vec<u32>;
+    fn in_range(&self, call: &Record) -> bool;
+    fn settings_in_range(call: &Record) -> bool;
+    /// The interpolated fields on their way to this call's targets.
+    fn ramps(&self, call: &Record) -> [Ramp; RAMPS];
+    /// Puts the interpolated fields back.
+    fn store(&mut self, values: [f32; RAMPS]);
+    /// One sample, from this sample's steps and what the buffer held.
+    fn sample(&mut self, call: &Record, steps: [f32; RAMPS], old: f32) -> (f32, Counts);
+
+    fn registration_fits(_call: &Record) -> bool {
+        true
+    }
+
+    fn too_high(_call: &Record) -> bool {
+        false
+    }
+}
+
+/// An answer other than Done, with the index that a Drift carries.
+struct Refusal(usize, usize);
+
+pub fn render<O: Oscillator<N>, const N: usize>(call: &Record, out: &mut [f32]) -> Outcome {
+    let words = call.state_words();
+    match checked::<O, N>(call, &words, out.len()) {
+        Ok(state) => play(state, call, out),
+        Err(Refusal(answer, index)) => Outcome {
+            answer,
+            index,
+            counts: Counts::default(),
+            words,
+            double_rises: 0,
+        },
+    }
+}
+
+/// The state of a call that is answered, or the first refusal that applies.
+fn checked<O: Oscillator<N>, const N: usize>(
+    call: &Record,
+    words: &[u32],
+    length: usize,
+) -> Result<O, Refusal> {
+    if length > LONGEST_BLOCK {
+        return Err(Refusal(1, 0));
+    }
+    if !O::registration_fits(call) {
+        return Err(Refusal(2, 0));
+    }
+    let state = O::from_words(words)
+        .filter(|state| state.in_range(call))
+        .ok_or(Refusal(3, 0))?;
+    if !O::settings_in_range(call) {
+        return Err(Refusal(4, 0));
+    }
+    if O::too_high(call) {
+        return Err(Refusal(5, 0));
+    }
+    match first_outside(state.ramps(call), length) {
+        Some(sample) => Err(Refusal(6, sample)),
+        None => Ok(state),
+    }
+}
+
+fn play<O: Oscillator<N>, const N: usize>(mut state: O, call: &Record, out: &mut [f32]) -> Outcome {
+    let mut ramps = state.ramps(call);
+    let mut sum = Counts::default();
+    let mut double_rises = 0;
+    for place in out.iter_mut() {
+        let steps = ramps.each_mut().map(Ramp::step);
+        let (sample, counts) = state.sample(call, steps, *place);
+        *place = sample;
+        sum.cycles += counts.cycles;
+        sum.rises += counts.rises;
+        sum.falls += counts.falls;
+        sum.cuts += counts.cuts;
+        double_rises += usize::from(counts.rises == 2 && counts.falls == 1);
+    }
+    state.store(ramps.map(|ramp| ramp.value));
+    Outcome {
+        answer: 0,
+        index: 0,
+        counts: sum,
+        words: state.to_words(),
+        double_rises,
+    }
+}

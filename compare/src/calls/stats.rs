@@ -1,0 +1,69 @@
+//! What a list of calls went through, for a reader to judge what it tried.
+
+use super::model::Outcome;
+use std::fmt;
+
+#[derive(Clone, Copy, Default)]
+struct KindStats {
+    answers: [usize; 7],
+    samples: usize,
+    double_rises: usize,
+    nans: usize,
+}
+
+/// Counts for each kind, by its number; and the records that the line `-` passes over.
+#[derive(Default)]
+pub struct Stats {
+    kinds: [KindStats; 6],
+    passed_over: usize,
+}
+
+impl Stats {
+    pub fn pass_over(&mut self) {
+        self.passed_over += 1;
+    }
+
+    pub fn add(&mut self, kind: u8, samples: &[f32], outcome: &Outcome) {
+        let stats = &mut self.kinds[usize::from(kind)];
+        stats.answers[outcome.answer] += 1;
+        stats.double_rises += outcome.double_rises;
+        if outcome.answer == 0 {
+            stats.samples += samples.len();
+            stats.nans += samples.iter().filter(|sample| sample.is_nan()).count();
+        }
+    }
+
+    fn records(&self) -> usize {
+        self.passed_over + self.kinds.iter().map(KindStats::records).sum::<usize>()
+    }
+}
+
+impl KindStats {
+    fn records(&self) -> usize {
+        self.answers.iter().sum()
+    }
+}
+
+impl fmt::Display for Stats {
+    fn fmt(&self, to: &mut fmt::Formatter) -> fmt::Result {
+        for (kind, stats) in self
+            .kinds
+            .iter()
+            .enumerate()
+            .filter(|(_, s)| s.records() > 0)
+        {
+            write!(to, "kind {kind}: {} records, answers", stats.records())?;
+            for (answer, count) in stats.answers.iter().enumerate() {
+                write!(to, " {answer}:{count}")?;
+            }
+            writeln!(
+                to,
+                ", {} samples, {} with rise, fall and rise, {} NaN",
+                stats.samples, stats.double_rises, stats.nans
+            )?;
+        }
+        let samples: usize = self.kinds.iter().map(|stats| stats.samples).sum();
+        writeln!(to, "passed over (-): {} records", self.passed_over)?;
+        writeln!(to, "total: {} records, {samples} samples", self.records())
+    }
+}

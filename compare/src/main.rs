@@ -1,0 +1,144 @@
+//! The command line: makes records, makes the answers that the ported Rust gives to them, and
+//! finds the first difference between two lists of answers.
+
+mod calls;
+mod difference;
+mod leaves;
+mod random;
+
+use calls::record::{Record, RECORD_BYTES};
+use calls::stats::Stats;
+use calls::Kinds;
+use std::io::{self, BufWriter, Read, Write};
+use std::{env, fs, process};
+
+// The ported Rust as build.rs lays it out: the modules `oscillator` and `utils`.
+include!(concat!(env!("OUT_DIR"), "/source.rs"));
+
+const USAGE: &str = "usage: compare make-leaves COUNT SEED | expect-leaves | \
+    make-calls COUNT SEED [--kinds LIST] | expect-calls [--kinds LIST] [--stats] | \
+    first-difference leaves|calls INPUT EXPECTED GOT";
+
+fn main() {
+    let words: Vec<String> = env::args().skip(1).collect();
+    let words: Vec<&str> = words.iter().map(String::as_str).collect();
+    if let Err(message) = run(&words) {
+        eprintln!("compare: {message}");
+        process::exit(2);
+    }
+}
+
+fn run(words: &[&str]) -> Result<(), String> {
+    match words {
+        ["make-leaves", count, seed] => make_leaves(number(count)?, number(seed)?),
+        ["expect-leaves"] => expect_leaves(),
+        ["make-calls", count, seed] => make_calls(number(count)?, number(seed)?, Kinds::all()),
+        ["make-calls", count, seed, "--kinds", list] => {
+            make_calls(number(count)?, number(seed)?, Kinds::parse(list)?)
+        }
+        ["expect-calls", options @ ..] => {
+            let (kinds, with_stats) = expect_options(options)?;
+            expect_calls(&kinds, with_stats)
+        }
+        ["first-difference", "leaves", input, expected, got] => {
+            first_difference(leaves::RECORD_BYTES, [input, expected, got])
+        }
+        ["first-difference", "calls", input, expected, got] => {
+            first_difference(RECORD_BYTES, [input, expected, got])
+        }
+        _ => Err(USAGE.to_string()),
+    }
+}
+
+fn number(word: &str) -> Result<u64, String> {
+    word.parse()
+        .map_err(|_| format!("{word} is no whole number; {USAGE}"))
+}
+
+fn make_leaves(count: u64, seed: u64) -> Result<(), String> {
+    let mut out = BufWriter::new(io::stdout().lock());
+    for record in leaves::make::records(count as usize, seed) {
+        for word in record {
+            out.write_all(&word.to_le_bytes()).map_err(cannot_write)?;
+        }
+    }
+    out.flush().map_err(cannot_write)
+}
+
+fn expect_leaves() -> Result<(), String> {
+    let input = read_records(leaves::RECORD_BYTES)?;
+    let mut out = BufWriter::new(io::stdout().lock());
+    for record in input.chunks(leaves::RECORD_BYTES) {
+        let word = |at: usize| u32::from_le_bytes([0, 1, 2, 3].map(|byte| record[at + byte]));
+        let line = leaves::expect::line([word(0), word(4), word(8)]);
+        writeln!(out, "{line}").map_err(cannot_write)?;
+    }
+    out.flush().map_err(cannot_write)
+}
+
+fn make_calls(count: u64, seed: u64, kinds: Kinds) -> Result<(), String> {
+    let mut out = BufWriter::new(io::stdout().lock());
+    for record in calls::make::records(count as usize, seed, &kinds) {
+        out.write_all(&record.0).map_err(cannot_write)?;
+    }
+    out.flush().map_err(cannot_write)
+}
+
+fn expect_options(options: &[&str]) -> Result<(Kinds, bool), String> {
+    match options {
+        [] => Ok((Kinds::all(), false)),
+        ["--stats", rest @ ..] => Ok((expect_options(rest)?.0, true)),
+        ["--kinds", list] => Ok((Kinds::parse(list)?, false)),
+        ["--kinds", list, "--stats"] => Ok((Kinds::parse(list)?, true)),
+        _ => Err(USAGE.to_string()),
+    }
+}
+
+fn expect_calls(kinds: &Kinds, with_stats: bool) -> Result<(), String> {
+    let input = read_records(RECORD_BYTES)?;
+    let mut out = BufWriter::new(io::stdout().lock());
+    let mut stats = Stats::default();
+    for (number, bytes) in input.chunks(RECORD_BYTES).enumerate() {
+        let mut record = Record([0; RECORD_BYTES]);
+        record.0.copy_from_slice(bytes);
+        let line = calls::expect::expect(number, &record, kinds, &mut stats)?;
+        writeln!(out, "{line}").map_err(cannot_write)?;
+    }
+    if with_stats {
+        eprint!("{stats}");
+    }
+    out.flush().map_err(cannot_write)
+}
+
+fn first_difference(record_bytes: usize, names: [&str; 3]) -> Result<(), String> {
+    let read = |name: &str| fs::read(name).map_err(|e| format!("cannot read {name}: {e}"));
+    let [input, expected, got] = names;
+    match difference::first(&read(input)?, record_bytes, &read(expected)?, &read(got)?) {
+        Ok(count) => println!("{count} records agree"),
+        Err(told) => {
+            // A difference is what was asked for, and no error of this program: it is told alone.
+            println!("{told}");
+            process::exit(1);
+        }
+    }
+    Ok(())
+}
+
+fn read_records(record_bytes: usize) -> Result<Vec<u8>, String> {
+    let mut input = Vec::new();
+    io::stdin()
+        .lock()
+        .read_to_end(&mut input)
+        .map_err(|e| format!("cannot read standard input: {e}"))?;
+    if !input.len().is_multiple_of(record_bytes) {
+        return Err(format!(
+            "the input has {} bytes, no multiple of a record's {record_bytes}",
+            input.len()
+        ));
+    }
+    Ok(input)
+}
+
+fn cannot_write(error: io::Error) -> String {
+    format!("cannot write to standard output: {error}")
+}

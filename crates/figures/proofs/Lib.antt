@@ -1,0 +1,2 @@
+-- The claim over the table of figures.
+pub mod Figures

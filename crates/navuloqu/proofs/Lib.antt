@@ -1,0 +1,2 @@
+-- The laws of the face.
+pub mod Faces

@@ -1,0 +1,18 @@
+-- `navuloqu_super_square_init` meets its contract. Assumes nothing.
+use borrow.Author.Needs.{needs}
+use Rattle.navuloqu.proofs.super_square_face.navuloqu_super_square_init.Statement.{
+  statement,
+}
+use Rattle.navuloqu.proofs.super_square_face.navuloqu_super_square_init.Tie as tie
+
+init-requires : tie.Need-init-requires
+init-requires c κs = search needs
+
+words-of-requires : tie.Need-words-of-requires
+words-of-requires c κs = search needs
+
+returns : tie.Need-returns
+returns c = cc
+
+pub navuloqu-super-square-init-spec : {M : Type 1} → statement M
+navuloqu-super-square-init-spec = tie.close (tie.spec init-requires words-of-requires returns)

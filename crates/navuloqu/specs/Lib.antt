@@ -1,0 +1,3 @@
+-- The face for other languages: states and results as arrays of 32-bit words.
+pub mod Face
+pub mod SuperSquare

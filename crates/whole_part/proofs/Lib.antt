@@ -1,0 +1,3 @@
+-- What the bits of a float say of its whole part, and what it is where no bits are asked.
+pub mod Digits
+pub mod Outside

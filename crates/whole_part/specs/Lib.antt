@@ -1,0 +1,2 @@
+-- The whole part of a float.
+pub mod WholePart
