@@ -2,9 +2,13 @@
 -- has wrapped `time` samples ago, and the slave starts anew. Assumes nothing.
 use mathlib.Core.Bool.{Bool, not, _&&_, _||_, cond}
 use lib.Ieee.{Float, le}
-use Rattle.floats.specs.F32.{_⊕_, _⊖_, _⊗_, one32}
+use Rattle.floats.specs.F32.{_⊕_, _⊖_, _⊗_, _⊘_, one32}
 use Rattle.polyblep.specs.Polyblep.{thisBlepSample, nextBlepSample}
 use Rattle.block.specs.declared.Edge.{Edge}
+
+-- how many samples ago the master wrapped, from its phase after the wrap and its step
+abbrev pub resetTime : Float → Float → Float
+resetTime masterPhase masterFrequency = masterPhase ⊘ masterFrequency
 
 -- where the slave's phase had come to at the reset, before it is wrapped
 abbrev pub slaveAtReset : Float → Float → Float → Float

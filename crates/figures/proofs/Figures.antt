@@ -1,8 +1,10 @@
 -- Every figure of the table is met, by computation. Assumes nothing.
 use mathlib.Core.Path.{_≡_, refl}
-use lib.Ieee.{ofBits, toBits, ofInt, neg, add, sub, mul, div, toUnsigned}
+use lib.Ieee.{ofBits, toBits, ofInt, neg, add, sub, mul, div, lt, le, toUnsigned}
+use Rattle.block.specs.Crossings.{turns}
+use Rattle.super_square.specs.Sample.{riseOf, fallOf, edgeOf, finish, resetEdge, resetSample, plainSample, sampleOf}
 use Rattle.figures.specs.Rows.{rows, answers, expectations}
 
 pub figures : answers rows ≡ expectations rows
-unfolding ofBits toBits ofInt neg add sub mul div toUnsigned
+unfolding ofBits toBits ofInt neg add sub mul div lt le toUnsigned turns riseOf fallOf edgeOf finish resetEdge resetSample plainSample sampleOf
 figures = refl

@@ -1,3 +1,3 @@
--- 01's figures P1 to P5, as rows of one table.
+-- 01's figures as rows of one table.
 pub mod Question
 pub mod Rows

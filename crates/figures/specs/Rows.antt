@@ -1,7 +1,7 @@
 -- 01's figures, each with what it asks, the inputs and the expected answer. Assumes nothing.
 use mathlib.Core.List.{List, [], _∷_, map}
 use Prim.Native.Nat.{ℕ}
-use Rattle.figures.specs.Question.{Question, thisBlep, nextBlep, nextIntegratedBlep, interpolation, wholePart, answerTo}
+use Rattle.figures.specs.Question.{Question, thisBlep, nextBlep, nextIntegratedBlep, interpolation, wholePart, superSquareFactor, superSquareSample, answerTo}
 
 pub record Row : Type 0 where
   pub asked : Question
@@ -37,6 +37,12 @@ rows =
     ∷ row wholePart (0x40ff_0000 ∷ []) (7 ∷ [])
     -- 8 gives 8
     ∷ row wholePart (0x4100_0000 ∷ []) (8 ∷ [])
+    -- P6: shape 0.5 gives 1
+    ∷ row superSquareFactor (0x3f00_0000 ∷ []) (0x3f80_0000 ∷ [])
+    -- 1 gives 5
+    ∷ row superSquareFactor (0x3f80_0000 ∷ []) (0x40a0_0000 ∷ [])
+    -- P8: 0.875 plus 0.25 is one cycle, with the phase 0.125 and the reset time 0.5
+    ∷ row superSquareSample (0x3f60_0000 ∷ 0x3e80_0000 ∷ []) (1 ∷ 0x3e00_0000 ∷ 0x3f00_0000 ∷ [])
     ∷ []
 
 abbrev pub answers : List Row → List (List ℕ)

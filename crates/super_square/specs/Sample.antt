@@ -9,7 +9,7 @@ use Rattle.polyblep.specs.Polyblep.{thisBlepSample, nextBlepSample}
 use Rattle.block.specs.declared.Edge.{Edge}
 use Rattle.block.specs.Counting.{oneIf}
 use Rattle.block.specs.Crossings.{crossings}
-use Rattle.block.specs.Sync.{slaveAtReset, wrapOnce, transitionDuringReset, cutEdge}
+use Rattle.block.specs.Sync.{resetTime, slaveAtReset, wrapOnce, transitionDuringReset, cutEdge}
 use Rattle.block.specs.Play.{Sample}
 use Rattle.super_square.specs.declared.State.{State}
 use Rattle.super_square.specs.declared.sample.Sampled.{Sampled}
@@ -96,7 +96,7 @@ resetEdge s slaveFrequency time =
 -- with a reset, lines 73 to 93 and 122 to 125. 01 counts a cut where it finds `high` true just before clearing it.
 unfoldable pub resetSample : State → Float → Float → Float → Sampled
 resetSample s masterFrequency slaveFrequency masterPhase =
-    let time = masterPhase ⊘ masterFrequency in
+    let time = resetTime masterPhase masterFrequency in
     let e = resetEdge s slaveFrequency time in
     finish e (after masterPhase (time ⊗ slaveFrequency) false masterFrequency slaveFrequency) 1 (oneIf (e .high))
 
