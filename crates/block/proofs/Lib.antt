@@ -4,9 +4,11 @@ pub mod RangeLaws
 pub mod Walks
 pub mod Padding
 pub mod Plays
+pub mod InsideAt
 pub mod Runs
 pub mod Accounts
 pub mod Limits
 pub mod CallLaws
 pub mod Contracts
 pub mod Crossings
+pub mod CrossingsWrap

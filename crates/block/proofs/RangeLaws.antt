@@ -4,11 +4,13 @@ use mathlib.Core.Bool.{true}
 use Prim.Native.Nat.{_*_}
 use lib.Dec.{T}
 use lib.Ieee.{Float, binary32, fits}
+use Rattle.floats.specs.F32.{zero32, one32}
+use Rattle.floats.proofs.Order.{lt→le}
 use Rattle.floats.proofs.Ticks.{tick, cycle, one-at, topStep-at}
 use Rattle.floats.proofs.Ranges.{Under, Positive, at-least-0, under-of, under-lt, positive-le, positive-of}
-use Rattle.block.specs.declared.Room.the-variants.{Frequency}
+use Rattle.block.specs.declared.Room.the-variants.{Frequency, PulseWidth}
 use Rattle.block.specs.Rooms.{inRoom}
-use Rattle.block.specs.Ranges.{phaseIn, frequencyIn}
+use Rattle.block.specs.Ranges.{phaseIn, frequencyIn, unitIn}
 use Rattle.block.proofs.Bools.{and-both}
 
 -- a phase that passed its test
@@ -24,3 +26,13 @@ frequency-step t h = let p = and-both _ _ h in positive-of t (p .0) (p .1) topSt
 
 pub step-frequency : {x : Float} → Positive x (4456448 * tick) → frequencyIn x ≡ true
 step-frequency p = rw (at-least-0 (p .at), positive-le topStep-at p)
+
+-- a pulse width's step in its room, and the state's range that it is in
+pub width-step : {x : Float} → T (fits binary32 x) → inRoom PulseWidth x ≡ true → Under x cycle
+width-step t h = let p = and-both _ _ h in under-of t (lt→le _ _ (p .0)) (p .1) one-at
+
+pub width-unit : (x : Float) → inRoom PulseWidth x ≡ true → unitIn x ≡ true
+width-unit x h = let p = and-both _ _ h in rw (lt→le zero32 x (p .0), lt→le x one32 (p .1))
+
+pub step-width : {x : Float} → Under x cycle → unitIn x ≡ true
+step-width u = rw (at-least-0 (u .at), lt→le _ _ (under-lt one-at u))

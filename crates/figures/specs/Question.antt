@@ -14,6 +14,9 @@ use Rattle.block.specs.Sync.{resetTime}
 use Rattle.super_square.specs.declared.State.{State as SuperSquare}
 use Rattle.super_square.specs.Sample.{sampleOf}
 use Rattle.super_square.specs.Block.{factorOf}
+use Rattle.block.specs.Targets.{clampedWidth}
+use Rattle.variable_saw.specs.Figures as Saw
+use Rattle.variable_shape.specs.Figures as Shape
 
 pub data Question : Type 0 where
   thisBlep : Question
@@ -23,6 +26,9 @@ pub data Question : Type 0 where
   wholePart : Question
   superSquareFactor : Question
   superSquareSample : Question
+  pulseWidth : Question
+  sawSamples : Question
+  shapeSample : Question
 
 -- input k as it stands, and as a float
 abbrev input : List ℕ → ℕ → ℕ
@@ -50,7 +56,27 @@ resetFigure phase step =
     let t = sampleOf (superSquareAt phase) step step in
     t .counts .cycles ∷ toBits binary32 (t .state .«master_phase») ∷ toBits binary32 (resetTime (t .state .«master_phase») step) ∷ []
 
--- an interpolation's inputs are the value, the target and the number of steps; a sample's are the phase and the step; every other question has one input
+-- a low saw at `phase` with a steady width: the rises of one sample, the time of the rise, the phase after it; then the cycles of the next, and its phase
+abbrev sawFigure : Float → Float → Float → List ℕ
+sawFigure phase step width =
+    let s = Saw.steadySaw phase step width in
+    let t = Saw.steadySample step width s in
+    let u = Saw.steadySample step width (t .state) in
+    t .counts .rises
+    ∷ toBits binary32 (Saw.steadyRiseTime step width s)
+    ∷ toBits binary32 (t .state .phase)
+    ∷ u .counts .cycles
+    ∷ toBits binary32 (u .state .phase)
+    ∷ []
+
+-- a low shape without sync: rises, falls, cycles and the phase of one sample with a steady width
+abbrev shapeFigure : Float → Float → Float → List ℕ
+shapeFigure phase step width =
+    let t = Shape.steadySample phase step width zero32 in
+    t .counts .rises ∷ t .counts .falls ∷ t .counts .cycles ∷ toBits binary32 (t .state .«slave_phase») ∷ []
+
+-- an interpolation's inputs are the value, the target and the number of steps; a sample's are the phase, the step and the width, if it has one;
+-- a pulse width's are the frequency and the width; every other question has one input
 abbrev pub answerTo : Question → List ℕ → List ℕ
 answerTo thisBlep inputs = one (thisBlepSample (float inputs 0))
 answerTo nextBlep inputs = one (nextBlepSample (float inputs 0))
@@ -59,3 +85,6 @@ answerTo interpolation inputs = steps (input inputs 2) (newInterpolator (float i
 answerTo wholePart inputs = WholePart.wholePart (float inputs 0) ∷ []
 answerTo superSquareFactor inputs = one (factorOf (float inputs 0))
 answerTo superSquareSample inputs = resetFigure (float inputs 0) (float inputs 1)
+answerTo pulseWidth inputs = one (clampedWidth (float inputs 0) (float inputs 1))
+answerTo sawSamples inputs = sawFigure (float inputs 0) (float inputs 1) (float inputs 2)
+answerTo shapeSample inputs = shapeFigure (float inputs 0) (float inputs 1) (float inputs 2)

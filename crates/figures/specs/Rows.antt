@@ -1,7 +1,7 @@
 -- 01's figures, each with what it asks, the inputs and the expected answer. Assumes nothing.
 use mathlib.Core.List.{List, [], _∷_, map}
 use Prim.Native.Nat.{ℕ}
-use Rattle.figures.specs.Question.{Question, thisBlep, nextBlep, nextIntegratedBlep, interpolation, wholePart, superSquareFactor, superSquareSample, answerTo}
+use Rattle.figures.specs.Question.{Question, thisBlep, nextBlep, nextIntegratedBlep, interpolation, wholePart, superSquareFactor, superSquareSample, pulseWidth, sawSamples, shapeSample, answerTo}
 
 pub record Row : Type 0 where
   pub asked : Question
@@ -41,8 +41,16 @@ rows =
     ∷ row superSquareFactor (0x3f00_0000 ∷ []) (0x3f80_0000 ∷ [])
     -- 1 gives 5
     ∷ row superSquareFactor (0x3f80_0000 ∷ []) (0x40a0_0000 ∷ [])
+    -- P7: width 0 at frequency 0.125 becomes 0.25
+    ∷ row pulseWidth (0x3e00_0000 ∷ 0 ∷ []) (0x3e80_0000 ∷ [])
+    -- 0.9 at 0.25 becomes 0.5
+    ∷ row pulseWidth (0x3e80_0000 ∷ 0x3f66_6666 ∷ []) (0x3f00_0000 ∷ [])
     -- P8: 0.875 plus 0.25 is one cycle, with the phase 0.125 and the reset time 0.5
     ∷ row superSquareSample (0x3f60_0000 ∷ 0x3e80_0000 ∷ []) (1 ∷ 0x3e00_0000 ∷ 0x3f00_0000 ∷ [])
+    -- P9: low, 0.875, step 0.25, width 0.5 steady: a rise with t = 2.5, phase 1.125; the next sample wraps to 0.375
+    ∷ row sawSamples (0x3f60_0000 ∷ 0x3e80_0000 ∷ 0x3f00_0000 ∷ []) (1 ∷ 0x4020_0000 ∷ 0x3f90_0000 ∷ 1 ∷ 0x3ec0_0000 ∷ [])
+    -- P10: low, 0.875, step 0.25, width 0.0625 steady: rise, fall, rise; phase 0.125
+    ∷ row shapeSample (0x3f60_0000 ∷ 0x3e80_0000 ∷ 0x3d80_0000 ∷ []) (2 ∷ 1 ∷ 1 ∷ 0x3e00_0000 ∷ [])
     ∷ []
 
 abbrev pub answers : List Row → List (List ℕ)

@@ -9,4 +9,5 @@ pub mod Ticks
 pub mod Turn
 pub mod Ranges
 pub mod PowerOfTwo
+pub mod WholeNumbers
 pub mod Integers

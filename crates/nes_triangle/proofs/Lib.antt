@@ -1,0 +1,8 @@
+-- The laws of the NES triangle.
+pub mod Depths
+pub mod Turns
+pub mod Keeping
+pub mod Loop
+pub mod Calls
+pub mod Phase
+pub mod Tight

@@ -1,0 +1,20 @@
+-- The contract of `render` determines all: any two outcomes that satisfy it coincide. Assumes nothing.
+use mathlib.Core.Path.{_≡_, ap}
+use mathlib.Core.List.{List}
+use Prim.Native.Nat.{ℕ}
+use lib.Ieee.{Float}
+use Rattle.block.specs.Calls.{Call}
+use Rattle.block.proofs.Contracts.{coincide, same-answer}
+use Rattle.nes_triangle.specs.declared.State.{State}
+use Rattle.nes_triangle.specs.declared.Rendered.{Rendered}
+use Rattle.nes_triangle.specs.Block.{renderOf, left}
+
+-- two calls with the same arguments: what they return is equal field by field, and so are the buffers that they leave
+pub tight : (s : State) (frequency : Float) (bits : ℕ) (xs : List Float) (r q : Rendered) (ys zs : List Float)
+    → left r ys ≡ renderOf s frequency bits xs → left q zs ≡ renderOf s frequency bits xs → (r ≡ q) × (ys ≡ zs)
+tight s frequency bits xs r q ys zs h k =
+    let e = coincide h k in
+    let answer = same-answer (r .answer) (q .answer) (ap (λ (c : Call State). c .number) e) (ap (λ (c : Call State). c .index) e) in
+    let state = ap (λ (c : Call State). c .state) e in
+    let counts = ap (λ (c : Call State). c .counts) e in
+    (rw (answer, state, counts), ap (λ (c : Call State). c .samples) e)

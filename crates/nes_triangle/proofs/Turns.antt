@@ -1,0 +1,132 @@
+-- A sample's phase and step. The product by the number of steps is exact, so that its whole part comes to that number exactly where the phase
+-- has come to 1; and a step that is below it then differs from the whole part, so that every such phase wraps. Assumes nothing.
+use mathlib.Core.Path.{_≡_, refl, sym, ap, _∙_, subst}
+use mathlib.Core.Bool.{Bool, true, false, not, _&&_}
+use Prim.Native.Nat.{ℕ, _*_, _/_, _^_, _≤_, _<_, min}
+use native.Mathlib.Nat.{le-trans, lt-of-lt-of-le, mul-assoc, mul-comm, mul-le-mul-right, mul-lt-mul-of-pos-right, div-lt-iff-lt-mul}
+use native.Mathlib.Omega.{arith}
+use borrow.Author.Tests.{leb-true, leb-false, ne-eqb}
+use mir.Syntax.{w32}
+use mir.Val.{SFits, toZ, ofZ}
+use mir.Facts.{toZ-ofZ}
+use lib.Dec.{leb, eqb, lit≤}
+use lib.IntN.{natAbs}
+use lib.Pow.{pow-pos}
+use lib.Ieee.{Float}
+use Rattle.floats.specs.F32.{_⊕_, _⊗_}
+use Rattle.floats.proofs.At.{At}
+use Rattle.floats.proofs.Ticks.{tick, cycle, cycle-is, tick-pos, Sum}
+use Rattle.floats.proofs.Turn.{Step, turn-1, turn-sum, turn-by}
+use Rattle.floats.proofs.PowerOfTwo.{mul-pow, unsigned-at, whole-pow}
+use Rattle.floats.proofs.WholeNumbers.{whole-at}
+use Rattle.whole_part.specs.WholePart.{wholePart}
+use Rattle.block.specs.Counting.{oneIf}
+use Rattle.block.proofs.Bools.{and-both}
+use Rattle.nes_triangle.specs.declared.State.{State}
+use Rattle.nes_triangle.specs.declared.depth.Depth.{Depth}
+use Rattle.nes_triangle.specs.declared.sample.Turn.{Turn}
+use Rattle.nes_triangle.specs.Depth.{wholeF32, depthOf}
+use Rattle.nes_triangle.specs.Sample.{wrapPhase, wrapStep, turnOf}
+use Rattle.nes_triangle.specs.Private.{Ready}
+use Rattle.nes_triangle.proofs.Depths.{few-steps, top-most}
+
+uncapped : (n c : ℕ) → n < c → min n c ≡ n
+uncapped n c h = omega arith
+
+-- ---- the whole part of a phase of n units, below 2, times the number of steps
+module _ {x : Float} {n : ℕ} (bits : ℕ) (few : bits ≤ 16) (p : At x n) (h : n < 2 * cycle) where
+  below : n * 2 ^ bits < 2 * 2 ^ bits * 2 ^ 149
+  below =
+      let l : n * 2 ^ bits < 2 * 2 ^ 149 * 2 ^ bits = mul-lt-mul-of-pos-right (subst (λ (k : ℕ). n < 2 * k) cycle-is h) (pow-pos bits) in
+      let e : 2 * 2 ^ 149 * 2 ^ bits ≡ 2 * 2 ^ bits * 2 ^ 149 = mul-assoc 2 (2 ^ 149) (2 ^ bits) ∙ ap (λ (k : ℕ). 2 * k) (mul-comm (2 ^ 149) (2 ^ bits)) ∙ sym (mul-assoc 2 (2 ^ bits) (2 ^ 149)) in
+      subst (λ (k : ℕ). n * 2 ^ bits < k) e l
+
+  most : 2 * 2 ^ bits ≤ 131072
+  most = omega (arith, few-steps bits few)
+
+  pub whole-under : n * 2 ^ bits / 2 ^ 149 < 2 * 2 ^ bits
+  whole-under = div-lt-iff-lt-mul (pow-pos 149) .1 below
+
+  product : At (x ⊗ wholeF32 (2 ^ bits)) (n * 2 ^ bits)
+  product = mul-pow bits p (whole-at (2 ^ bits) (le-trans (few-steps bits few) (lit≤ tt))) (lt-of-lt-of-le below (le-trans (mul-le-mul-right (2 ^ 149) most) (lit≤ tt)))
+
+  pub whole-is : wholePart (x ⊗ wholeF32 (2 ^ bits)) ≡ n * 2 ^ bits / 2 ^ 149
+  whole-is =
+      let l : n * 2 ^ bits / 2 ^ 149 < 131072 = lt-of-lt-of-le whole-under most in
+      ap (λ (k : ℕ). min k 131072) (unsigned-at 32 product (lt-of-lt-of-le l (lit≤ tt))) ∙ uncapped (n * 2 ^ bits / 2 ^ 149) 131072 l
+
+-- ---- the wrap, from the old step and the whole part
+wraps : (whole step n : ℕ) → step < n → (not (eqb whole step) && leb n whole) ≡ leb n whole
+wraps whole step n h = go (leb n whole) refl
+  where
+    and-false : (o : Bool) → (o && false) ≡ false
+    and-false true = refl
+    and-false false = refl
+
+    go : (o : Bool) → leb n whole ≡ o → (not (eqb whole step) && o) ≡ o
+    go true l = rw (ne-eqb whole step (λ e. omega (arith, leb-true n whole l)))
+    go false l = and-false (not (eqb whole step))
+
+step-under : (whole n : ℕ) (wrap : Bool) → wrap ≡ leb n whole → whole < 2 * n → wrapStep whole n wrap < n
+step-under whole n true e h = omega (arith, leb-true n whole (sym e))
+step-under whole n false e h = omega (arith, leb-false n whole (sym e))
+
+pub wrap-enough : (whole step n : ℕ) → (not (eqb whole step) && leb n whole) ≡ true → n ≤ whole
+wrap-enough whole step n h = leb-true n whole (and-both (not (eqb whole step)) (leb n whole) h .1)
+
+-- what a sample does to a phase of a units with a step of b, and to the state's step
+pub record Turned (d : Depth) (s : State) (frequency : Float) (bits a b : ℕ) : Type 0 where
+  pub phase : Step (turnOf d s frequency .phase) (oneIf (turnOf d s frequency .wrap)) a b cycle tick cycle
+  pub step : turnOf d s frequency .«next_step» < 2 ^ bits
+
+module _ (d : Depth) (s : State) (frequency : Float) (h : Ready d s frequency) where
+  sum : Sum (s .phase ⊕ frequency) (h .valid .phase .n) (h .some .n) (21233664 * tick) tick
+  sum = turn-sum turn-1 (h .valid .phase .at) (h .some .at) (omega (arith, h .valid .phase .under, h .some .most))
+
+  low : sum .n < 2 * cycle
+  low = omega (arith, sum .top, tick-pos)
+
+  -- from the whole part, the old step and the number of steps
+  module _ (whole old n : ℕ) (at-whole : whole ≡ sum .n * 2 ^ h .bits / 2 ^ 149) (at-old : old ≡ h .valid .step .n) (at-n : n ≡ 2 ^ h .bits) where
+    abbrev test : Bool
+    test = not (eqb whole old) && leb n whole
+
+    test-is : test ≡ leb n whole
+    test-is = wraps whole old n (rw (at-n, at-old) (h .valid .step .under))
+
+    turned-phase : Step (wrapPhase (s .phase ⊕ frequency) test) (oneIf test) (h .valid .phase .n) (h .some .n) cycle tick cycle
+    turned-phase = turn-by turn-1 sum test (test-is ∙ rw (at-n, at-whole) (whole-pow (sum .n) (h .bits)) ∙ ap (λ (k : ℕ). leb k (sum .n)) (sym cycle-is))
+
+    turned-step : wrapStep whole n test < 2 ^ h .bits
+    turned-step = subst (λ (k : ℕ). wrapStep whole n test < k) at-n (step-under whole n test test-is (rw (at-whole, at-n) (whole-under (h .bits) (h .bits-in .high) (sum .at) low)))
+
+  pub turned : Turned d s frequency (h .bits) (h .valid .phase .n) (h .some .n)
+  unfolding turnOf depthOf
+  turned =
+      let whole = wholePart ((s .phase ⊕ frequency) ⊗ d .«num_steps_f») in
+      let at-whole : whole ≡ sum .n * 2 ^ h .bits / 2 ^ 149 =
+      ap (λ (e : Depth). wholePart ((s .phase ⊕ frequency) ⊗ e .«num_steps_f»)) (h .depth) ∙ whole-is (h .bits) (h .bits-in .high) (sum .at) low in
+      let at-old : natAbs (s .step) ≡ h .valid .step .n = ap natAbs (h .valid .step .is) in
+      let at-n : d .«num_steps» ≡ 2 ^ h .bits = ap (λ (e : Depth). e .«num_steps») (h .depth) in
+      record {
+        phase = turned-phase whole (natAbs (s .step)) (d .«num_steps») at-whole at-old at-n;
+        step = turned-step whole (natAbs (s .step)) (d .«num_steps») at-whole at-old at-n;
+      }
+
+  pub finishable : (t : Turn) → t ≡ turnOf d s frequency → (t .«next_step» ≤ d .top) × (t .«next_step» < 65536)
+  unfolding depthOf
+  finishable t e =
+      let u : t .«next_step» < 2 ^ h .bits = rw e (turned .step) in
+      (subst (λ (e : Depth). t .«next_step» ≤ e .top) (sym (h .depth)) (top-most (2 ^ h .bits) (t .«next_step») u), omega (arith, few-steps (h .bits) (h .bits-in .high)))
+
+  -- 32 bits hold the state's step
+  pub step-fits : SFits w32 (s .step)
+  step-fits = rw (h .valid .step .is) (record { sfits = omega (arith, few-steps (h .bits) (h .bits-in .high), h .valid .step .under) })
+
+  -- the turn, from its parts
+  pub advanced : (whole old : ℕ) (phase : Float) (next : ℕ) → whole ≡ wholePart ((s .phase ⊕ frequency) ⊗ d .«num_steps_f») → old ≡ natAbs (toZ w32 (ofZ w32 (s .step)))
+      → (let wrap = not (eqb whole old) && leb (d .«num_steps») whole in
+      phase ≡ wrapPhase (s .phase ⊕ frequency) wrap → next ≡ wrapStep whole (d .«num_steps») wrap
+      → record { reached = s .phase ⊕ frequency; phase = phase; «next_step» = next; changed = not (eqb whole old); wrap = wrap } ≡ turnOf d s frequency)
+  unfolding turnOf
+  advanced whole old phase next at-whole at-old at-phase at-next = rw (at-phase, at-next, at-old, at-whole, toZ-ofZ step-fits)

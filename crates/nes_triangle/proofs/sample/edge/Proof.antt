@@ -1,0 +1,36 @@
+-- `nes_triangle::sample::edge` meets its contract: each way of the test is the definition's. Assumes nothing.
+use Rattle.nes_triangle.specs.Sample.{edgeOf}
+use borrow.Author.Needs.{needs}
+use Rattle.nes_triangle.proofs.sample.edge.Statement.{statement}
+use Rattle.nes_triangle.proofs.sample.edge.Tie as tie
+
+nearest-u32-to-f32-requires : tie.Need-nearest-u32-to-f32-requires
+nearest-u32-to-f32-requires c κs = search needs
+
+this-blep-sample-requires : tie.Need-this-blep-sample-requires
+this-blep-sample-requires c κs = search needs
+
+next-blep-sample-requires : tie.Need-next-blep-sample-requires
+next-blep-sample-requires c κs = search needs
+
+returns : tie.Need-returns
+unfolding edgeOf
+returns c =
+    let n = c .before in
+    let t = n .before .before in
+    let f = t .before in
+    rw (f .before .before .if1 .taken, t .this-blep-sample .ensures, n .next-blep-sample .ensures, f .nearest-u32-to-f32 .ensures)
+
+returns-2 : tie.Need-returns-2
+unfolding edgeOf
+returns-2 c = rw (c .if1 .left)
+
+pub edge-spec : {M : Type 1} → statement M
+edge-spec =
+    tie.close
+    (tie.spec
+    nearest-u32-to-f32-requires
+    this-blep-sample-requires
+    next-blep-sample-requires
+    returns
+    returns-2)

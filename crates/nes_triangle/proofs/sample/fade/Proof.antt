@@ -1,0 +1,15 @@
+-- `nes_triangle::sample::fade` meets its contract. Assumes nothing.
+use Rattle.nes_triangle.specs.Sample.{gainsOf}
+use borrow.Author.Needs.{needs}
+use Rattle.nes_triangle.proofs.sample.fade.Statement.{statement}
+use Rattle.nes_triangle.proofs.sample.fade.Tie as tie
+
+clamp-requires : tie.Need-clamp-requires
+clamp-requires c κs = search needs
+
+returns : tie.Need-returns
+unfolding gainsOf
+returns c = cc
+
+pub fade-spec : {M : Type 1} → statement M
+fade-spec = tie.close (tie.spec clamp-requires returns)

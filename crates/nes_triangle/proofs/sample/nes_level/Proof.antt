@@ -1,0 +1,17 @@
+-- `nes_triangle::sample::nes_level` meets its contract: each way of the test is the definition's. Assumes nothing.
+use borrow.Author.Tests.{lt-ltb, le-ltb}
+use borrow.Author.Needs.{needs}
+use Rattle.nes_triangle.proofs.sample.nes_level.Statement.{statement}
+use Rattle.nes_triangle.proofs.sample.nes_level.Tie as tie
+
+sub-result : tie.Need-sub-result
+sub-result c = search needs
+
+returns : tie.Need-returns
+returns c = rw (lt-ltb _ _ (c .if1 .taken))
+
+returns-2 : tie.Need-returns-2
+returns-2 c = rw (le-ltb _ _ (c .if1 .left))
+
+pub nes-level-spec : {M : Type 1} → statement M
+nes-level-spec = tie.close (tie.spec sub-result returns returns-2)

@@ -1,0 +1,26 @@
+-- `nes_triangle::sample::sample` meets its contract. Assumes nothing.
+use Rattle.nes_triangle.proofs.Turns.{finishable}
+use Rattle.nes_triangle.specs.Sample.{sampleOf}
+use borrow.Author.Needs.{needs}
+use Rattle.nes_triangle.proofs.sample.sample.Statement.{statement}
+use Rattle.nes_triangle.proofs.sample.sample.Tie as tie
+
+advance-requires : tie.Need-advance-requires
+advance-requires c κs = search needs
+
+fade-requires : tie.Need-fade-requires
+fade-requires c κs = search needs
+
+sound-requires : tie.Need-sound-requires
+sound-requires c κs = search needs
+
+finish-requires : tie.Need-finish-requires
+finish-requires c κs = finishable _ _ _ (c .before .before .before .pre) _ (c .before .before .advance .ensures)
+
+returns : tie.Need-returns
+unfolding sampleOf
+returns c = cc
+
+pub sample-spec : {M : Type 1} → statement M
+sample-spec =
+    tie.close (tie.spec advance-requires fade-requires sound-requires finish-requires returns)

@@ -1,0 +1,23 @@
+-- `nes_triangle::state_in` meets its contract. Assumes nothing.
+use mir.Facts.{toZ-ofZ}
+use Rattle.nes_triangle.specs.Block.{stateIn}
+use borrow.Author.Needs.{needs}
+use Rattle.nes_triangle.proofs.state_in.Statement.{statement}
+use Rattle.nes_triangle.proofs.state_in.Tie as tie
+
+phase-in-requires : tie.Need-phase-in-requires
+phase-in-requires c κs = search needs
+
+frequency-in-requires : tie.Need-frequency-in-requires
+frequency-in-requires c κs = search needs
+
+step-in-requires : tie.Need-step-in-requires
+step-in-requires c κs = search needs
+
+returns : tie.Need-returns
+unfolding stateIn
+returns c = let k = c .before .struct-told .given .1 .1 .0 in rw (c .step-in .ensures, c .before .before .frequency-in .ensures, c .before .before .before .phase-in .ensures, toZ-ofZ (record { sfits = k .1 }))
+
+pub state-in-spec : {M : Type 1} → statement M
+state-in-spec =
+    tie.close (tie.spec phase-in-requires frequency-in-requires step-in-requires returns)

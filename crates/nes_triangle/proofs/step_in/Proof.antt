@@ -1,0 +1,27 @@
+-- `nes_triangle::step_in` meets its contract: each way of the test is the definition's. Assumes nothing.
+use Rattle.nes_triangle.proofs.Depths.{not-negative, negative, step-in-is}
+use borrow.Author.Needs.{needs}
+use Rattle.nes_triangle.proofs.step_in.Statement.{statement}
+use Rattle.nes_triangle.proofs.step_in.Tie as tie
+
+unsigned-requires : tie.Need-unsigned-requires
+unsigned-requires c κs = not-negative _ (c .before .fits .step) (c .if1 .left)
+
+tested-bits-requires : tie.Need-tested-bits-requires
+tested-bits-requires c κs = search needs
+
+steps-requires : tie.Need-steps-requires
+steps-requires c κs = c .tested-bits .ensures .1
+
+returns : tie.Need-returns
+returns c = negative _ _ (c .before .fits .step) (c .if1 .taken)
+
+returns-2 : tie.Need-returns-2
+returns-2 c =
+    let u = c .before .before in
+    let a = u .before .before in
+    step-in-is (a .args .num-bits) (a .args .step) _ _ _ (a .fits .step) (u .before .if1 .left) (u .unsigned .ensures) (c .before .tested-bits .ensures .0) (c .steps .ensures)
+
+pub step-in-spec : {M : Type 1} → statement M
+step-in-spec =
+    tie.close (tie.spec unsigned-requires tested-bits-requires steps-requires returns returns-2)

@@ -1,0 +1,64 @@
+-- What the crate's own functions ask of each other. No public contract cites it. Assumes nothing.
+use mathlib.Core.Path.{_≡_}
+use mathlib.Core.Bool.{true}
+use mathlib.Core.List.{List}
+use Prim.Native.Nat.{ℕ, _*_, _^_, _≤_, _<_}
+use lib.IntN.{ℤ, pos}
+use lib.ListN.{length}
+use lib.Ieee.{Float}
+use Rattle.floats.proofs.Ticks.{tick, cycle}
+use Rattle.floats.proofs.Ranges.{Under, Positive}
+use Rattle.parameter_interpolator.specs.declared.ParameterInterpolator.{ParameterInterpolator}
+use Rattle.block.specs.declared.Answer.{Answer}
+use Rattle.block.specs.declared.Found.the-variants.{Nowhere}
+use Rattle.block.specs.Counting.{noCounts}
+use Rattle.block.specs.Ranges.{frequencyIn}
+use Rattle.block.specs.Steps.{stepsOf, firstOutside}
+use Rattle.block.specs.Play.{play}
+use Rattle.block.specs.Calls.{Call, done}
+use Rattle.nes_triangle.specs.declared.State.{State}
+use Rattle.nes_triangle.specs.declared.Rendered.{Rendered}
+use Rattle.nes_triangle.specs.declared.depth.Depth.{Depth}
+use Rattle.nes_triangle.specs.Depth.{depthOf}
+use Rattle.nes_triangle.specs.Sample.{sampleAt}
+use Rattle.nes_triangle.specs.Block.{rooms}
+
+-- z is a whole number from 0 up and below m
+pub record Below (z : ℤ) (m : ℕ) : Type 0 where
+  pub n : ℕ
+  pub is : z ≡ pos n
+  pub under : n < m
+
+-- the phase is a binary32 value of at least 0 and below 1, the step one of 2^bits, and the frequency passes its test
+pub record Valid (bits : ℕ) (s : State) : Type 0 where
+  pub phase : Under (s .phase) cycle
+  pub step : Below (s .step) (2 ^ bits)
+  pub frequency : frequencyIn (s .frequency) ≡ true
+
+pub record BitsIn (bits : ℕ) : Type 0 where
+  pub low : 1 ≤ bits
+  pub high : bits ≤ 16
+
+-- and the frequency's step lies above 0 and is at most 17/64
+pub record Ready (d : Depth) (s : State) (frequency : Float) : Type 0 where
+  pub bits : ℕ
+  pub depth : d ≡ depthOf bits
+  pub bits-in : BitsIn bits
+  pub valid : Valid bits s
+  pub some : Positive frequency (4456448 * tick)
+
+-- what is left to find out is whether a step leaves its room
+pub record Fit (bits : ℕ) (s : State) (xs : List Float) : Type 0 where
+  pub short : length xs ≤ 4096
+  pub bits-in : BitsIn bits
+  pub valid : Valid bits s
+
+pub record Playable (bits : ℕ) (s : State) (ps : List ParameterInterpolator) (xs : List Float) : Type 0 where
+  pub fit : Fit bits s xs
+  pub inside : firstOutside rooms (stepsOf (length xs) ps) ≡ Nowhere
+
+abbrev pub playedOf : ℕ → State → List ParameterInterpolator → List Float → Call State
+playedOf bits s ps xs = done (play (sampleAt bits) s noCounts (stepsOf (length xs) ps) xs)
+
+abbrev pub refused : Answer → State → Rendered
+refused answer s = record { answer = answer; state = s; counts = noCounts }

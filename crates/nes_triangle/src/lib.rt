@@ -1,0 +1,162 @@
+// A triangle approximated by discrete steps: the source's oscillator/nes_triangle_oscillator.rs.
+ghost use mathlib.Core.Path.{_≡_};
+ghost use mathlib.Core.Bool.{true};
+ghost use mathlib.Core.List.{[], _∷_};
+ghost use Rattle.block.specs.Calls.{run};
+ghost use Rattle.nes_triangle.specs.Sample.{sampleAt};
+ghost use Rattle.nes_triangle.specs.Block.{newState, initState, stepIn, stateIn, parametersIn, rooms, renderOf, left};
+ghost use Rattle.nes_triangle.specs.Private.{Fit, Playable, playedOf, refused};
+use block::Answer;
+use block::Counts;
+use block::Found;
+use block::Room;
+use parameter_interpolator::ParameterInterpolator;
+
+mod depth;
+mod sample;
+
+pub struct State {
+    pub phase: f32,
+    pub next_sample: f32,
+    pub step: i32,
+    pub ascending: bool,
+    pub frequency: f32,
+}
+
+// What a call gives.
+pub struct Rendered {
+    pub answer: Answer,
+    pub state: State,
+    pub counts: Counts,
+}
+
+pub fn new() -> State
+    ensures { λ r. ⌜ r ≡ newState ⌝ }
+{
+    State {
+        phase: 0.0,
+        next_sample: 0.0,
+        step: 0,
+        ascending: false,
+        frequency: 0.0,
+    }
+}
+
+pub fn init() -> State
+    ensures { λ r. ⌜ r ≡ initState ⌝ }
+{
+    State {
+        phase: 0.0,
+        next_sample: 0.0,
+        step: 0,
+        ascending: true,
+        frequency: 0.001,
+    }
+}
+
+// Renders a block into `out`, from the frequency that the last block ended with to this one, with 2^num_bits steps a cycle.
+pub fn render(state: State, frequency: f32, num_bits: u32, out: &mut [f32]) -> Rendered
+    ensures { λ r. ⌜ left r (now (out .exit)) ≡ renderOf state frequency «num_bits» (now (out .entry)) ⌝ }
+{
+    if out.len() > 4096 {
+        return refuse(Answer::LongBlock, state);
+    }
+    if !state_in(state, num_bits) {
+        return refuse(Answer::BadState, state);
+    }
+    if !parameters_in(frequency, num_bits) {
+        return refuse(Answer::BadParam, state);
+    }
+    let n = out.len() as u32;
+    let target = floats::min(frequency, 0.25);
+    let fm = ParameterInterpolator::new(state.frequency, target, n);
+    drift_or_play(state, num_bits, fm, out)
+}
+
+fn state_in(s: State, num_bits: u32) -> bool
+    ensures { λ r. ⌜ r ≡ stateIn s «num_bits» ⌝ }
+{
+    block::ranges::phase_in(s.phase)
+        & block::ranges::frequency_in(s.frequency)
+        & step_in(s.step, num_bits)
+}
+
+fn step_in(step: i32, num_bits: u32) -> bool
+    ensures { λ r. ⌜ r ≡ stepIn «num_bits» step ⌝ }
+{
+    if step < 0 {
+        false
+    } else {
+        sample::unsigned(step) < depth::steps(depth::tested_bits(num_bits))
+    }
+}
+
+fn parameters_in(frequency: f32, num_bits: u32) -> bool
+    ensures { λ r. ⌜ r ≡ parametersIn frequency «num_bits» ⌝ }
+{
+    block::ranges::parameter_frequency_in(frequency) & depth::bits_in(num_bits)
+}
+
+fn refuse(answer: Answer, state: State) -> Rendered
+    ensures { λ r. ⌜ r ≡ refused answer state ⌝ }
+{
+    Rendered {
+        answer,
+        state,
+        counts: block::none(),
+    }
+}
+
+// Drift where a step leaves its room, else the samples.
+fn drift_or_play(
+    state: State,
+    num_bits: u32,
+    fm: ParameterInterpolator,
+    out: &mut [f32],
+) -> Rendered
+    requires { ⌜ Fit «num_bits» state (now out) ⌝ }
+    ensures { λ r. ⌜ left r (now (out .exit)) ≡ run (sampleAt «num_bits») rooms (fm ∷ []) state (now (out .entry)) ⌝ }
+{
+    let n = out.len() as u32;
+    let still = ParameterInterpolator {
+        value: 0.0,
+        increment: 0.0,
+    };
+    let moving = [fm, still, still, still, still];
+    let kept = [
+        Room::Frequency,
+        Room::Unused,
+        Room::Unused,
+        Room::Unused,
+        Room::Unused,
+    ];
+    match block::first_outside(moving, kept, n) {
+        Found::Outside(i) => refuse(Answer::Drift(i), state),
+        Found::Nowhere => play(state, num_bits, fm, out),
+    }
+}
+
+// Every sample of the buffer.
+fn play(state: State, num_bits: u32, fm: ParameterInterpolator, out: &mut [f32]) -> Rendered
+    requires { ⌜ Playable «num_bits» state (fm ∷ []) (now out) ⌝ }
+    ensures { λ r. ⌜ left r (now (out .exit)) ≡ playedOf «num_bits» state (fm ∷ []) (now (out .entry)) ⌝ }
+{
+    let d = depth::of_bits(num_bits);
+    let mut s = state;
+    let mut moving = fm;
+    let mut counts = block::none();
+    let mut i = 0;
+    while i < out.len() {
+        moving = moving.next();
+        let t = sample::sample(d, s, moving.value);
+        out[i] = t.sample;
+        s = t.state;
+        counts = block::sum(counts, t.counts);
+        i += 1;
+    }
+    Rendered {
+        answer: Answer::Done,
+        state: s,
+        counts,
+    }
+}

@@ -1,0 +1,11 @@
+-- The laws of the string synth.
+pub mod Registrations
+pub mod Octaves
+pub mod Segments
+pub mod Keeping
+pub mod Loop
+pub mod Calls
+pub mod Phase
+pub mod Tight
+pub mod Shifts
+pub mod Accepted

@@ -1,0 +1,23 @@
+-- `string_synth::parameters_in` meets its contract. Assumes nothing.
+use Rattle.string_synth.specs.Block.{parametersIn}
+use borrow.Author.Needs.{needs}
+use Rattle.string_synth.proofs.parameters_in.Statement.{statement}
+use Rattle.string_synth.proofs.parameters_in.Tie as tie
+
+parameter-frequency-in-requires : tie.Need-parameter-frequency-in-requires
+parameter-frequency-in-requires c κs = search needs
+
+registration-in-requires : tie.Need-registration-in-requires
+registration-in-requires c κs = search needs
+
+within-requires : tie.Need-within-requires
+within-requires c κs = search needs
+
+returns : tie.Need-returns
+unfolding parametersIn
+returns c = cc
+
+pub parameters-in-spec : {M : Type 1} → statement M
+parameters-in-spec =
+    tie.close
+    (tie.spec parameter-frequency-in-requires registration-in-requires within-requires returns)

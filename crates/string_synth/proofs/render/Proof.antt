@@ -1,0 +1,128 @@
+-- `string_synth::render` meets its contract: each way out is the definition's. Assumes nothing.
+use mathlib.Core.Path.{_∙_, sym, subst}
+use lib.Dec.{T}
+use borrow.Author.Tests.{not-true, not-false}
+use Rattle.string_synth.proofs.Calls.{long-block, bad-registration, bad-state, bad-param, too-high, valid-of, rendered}
+use borrow.Author.Needs.{needs}
+use Rattle.string_synth.proofs.render.Statement.{statement}
+use Rattle.string_synth.proofs.render.Tie as tie
+
+refuse-requires : tie.Need-refuse-requires
+refuse-requires c κs = search needs
+
+returns : tie.Need-returns
+returns c = long-block _ _ _ _ _ _ (c .before .if1 .taken) (c .refuse .ensures)
+
+refuse-requires-2 : tie.Need-refuse-requires-2
+refuse-requires-2 c κs = search needs
+
+returns-2 : tie.Need-returns-2
+returns-2 c = bad-registration _ _ _ _ _ _ (c .before .before .if1 .left) (c .before .if2 .taken) (c .refuse2 .ensures)
+
+state-in-requires : tie.Need-state-in-requires
+state-in-requires c κs = search needs
+
+refuse-requires-3 : tie.Need-refuse-requires-3
+refuse-requires-3 c κs = search needs
+
+returns-3 : tie.Need-returns-3
+returns-3 c =
+    let t = c .before .before in
+    bad-state _ _ _ _ _ _ (t .before .before .if1 .left) (t .before .if2 .left) (sym (t .state-in .ensures) ∙ not-true _ (c .before .if3 .taken)) (c .refuse3 .ensures)
+
+parameters-in-requires : tie.Need-parameters-in-requires
+parameters-in-requires c κs = search needs
+
+refuse-requires-4 : tie.Need-refuse-requires-4
+refuse-requires-4 c κs = search needs
+
+returns-4 : tie.Need-returns-4
+returns-4 c =
+    let p = c .before .before in
+    let t = p .before .before in
+    bad-param _ _ _ _ _ _ (t .before .before .if1 .left) (t .before .if2 .left) (sym (t .state-in .ensures) ∙ not-false _ (p .before .if3 .left)) (sym (p .parameters-in .ensures) ∙ not-true _ (c .before .if4 .taken)) (c .refuse4 .ensures)
+
+refuse-requires-5 : tie.Need-refuse-requires-5
+refuse-requires-5 c κs = search needs
+
+returns-5 : tie.Need-returns-5
+returns-5 c =
+    let e = c .before .before in
+    let p = e .before in
+    let t = p .before .before in
+    too-high _ _ _ _ _ _ (t .before .before .if1 .left) (t .before .if2 .left) (sym (t .state-in .ensures) ∙ not-false _ (p .before .if3 .left)) (sym (p .parameters-in .ensures) ∙ not-false _ (e .if4 .left)) (c .before .if5 .taken) (c .refuse5 .ensures)
+
+cast-n : tie.Need-cast-n
+cast-n c = search needs
+
+targets-requires : tie.Need-targets-requires
+targets-requires c κs = search needs
+
+new-requires : tie.Need-new-requires
+new-requires c κs = search needs
+
+new-requires-2 : tie.Need-new-requires-2
+new-requires-2 c κs = search needs
+
+new-requires-3 : tie.Need-new-requires-3
+new-requires-3 c κs = search needs
+
+new-requires-4 : tie.Need-new-requires-4
+new-requires-4 c κs = search needs
+
+new-requires-5 : tie.Need-new-requires-5
+new-requires-5 c κs = search needs
+
+drift-or-play-requires : tie.Need-drift-or-play-requires
+drift-or-play-requires c κs =
+    let e = c .before .before .before .before .before .before .before in
+    let t = e .before .before .before .before in
+    let l = t .before .before in
+    let g = l .before .before .before .good .0 in
+    record { short = l .if1 .left; valid = valid-of _ (subst T (sym (g .1 .1 .0 .1)) tt) (sym (t .state-in .ensures) ∙ not-false _ (e .before .before .before .if3 .left)) }
+
+same-length : tie.Need-same-length
+same-length c = search needs
+
+returns-6 : tie.Need-returns-6
+returns-6 c =
+    let d = c .before .before in
+    let n1 = d .before .before in
+    let n2 = n1 .before in
+    let n4 = n2 .before in
+    let n8 = n4 .before in
+    let nf = n8 .before in
+    let to = nf .before in
+    let h = to .before in
+    let e = h .before in
+    let p = e .before in
+    let t = p .before .before in
+    rendered _ _ _ _ _ (d .drift-or-play .result) (t .before .before .if1 .left) (t .before .if2 .left) (sym (t .state-in .ensures) ∙ not-false _ (p .before .if3 .left)) (sym (p .parameters-in .ensures) ∙ not-false _ (e .if4 .left))
+    (h .if5 .left) _ _ _ _ _ _ _ (to .targets .ensures) (nf .new .ensures) (n8 .new2 .ensures) (n4 .new3 .ensures) (n2 .new4 .ensures) (n1 .new5 .ensures) (d .drift-or-play .ensures)
+
+pub render-spec : {M : Type 1} → statement M
+render-spec =
+    tie.close
+    (tie.spec
+    refuse-requires
+    returns
+    refuse-requires-2
+    returns-2
+    state-in-requires
+    refuse-requires-3
+    returns-3
+    parameters-in-requires
+    refuse-requires-4
+    returns-4
+    refuse-requires-5
+    returns-5
+    cast-n
+    targets-requires
+    new-requires
+    new-requires-2
+    new-requires-3
+    new-requires-4
+    new-requires-5
+    drift-or-play-requires
+    same-length
+    returns-6)

@@ -1,0 +1,22 @@
+-- `string_synth::sample::discontinuity` meets its contract. Assumes nothing.
+use Rattle.string_synth.specs.Sample.{discontinuityOf}
+use borrow.Author.Needs.{needs}
+use Rattle.string_synth.proofs.sample.discontinuity.Statement.{statement}
+use Rattle.string_synth.proofs.sample.discontinuity.Tie as tie
+
+less-if-requires : tie.Need-less-if-requires
+less-if-requires c κs = search needs
+
+less-if-requires-2 : tie.Need-less-if-requires-2
+less-if-requires-2 c κs = search needs
+
+less-if-requires-3 : tie.Need-less-if-requires-3
+less-if-requires-3 c κs = search needs
+
+returns : tie.Need-returns
+unfolding discontinuityOf
+returns c = cc
+
+pub discontinuity-spec : {M : Type 1} → statement M
+discontinuity-spec =
+    tie.close (tie.spec less-if-requires less-if-requires-2 less-if-requires-3 returns)

@@ -1,0 +1,22 @@
+-- `string_synth::sample::finish` meets its contract. Assumes nothing.
+use mir.ValLaws.{toZ-pos}
+use mir.Syntax.{w32}
+use lib.Dec.{lit<}
+use native.Mathlib.Nat.{lt-of-le-of-lt}
+use Rattle.string_synth.specs.Sample.{finish}
+use borrow.Author.Needs.{needs}
+use Rattle.string_synth.proofs.sample.finish.Statement.{statement}
+use Rattle.string_synth.proofs.sample.finish.Tie as tie
+
+next-sample-requires : tie.Need-next-sample-requires
+next-sample-requires c κs = search needs
+
+cast-t5 : tie.Need-cast-t5
+cast-t5 c = search needs
+
+returns : tie.Need-returns
+unfolding finish
+returns c = cc (toZ-pos w32 _ (lt-of-le-of-lt (c .before .before .before .pre) (lit< tt)))
+
+pub finish-spec : {M : Type 1} → statement M
+finish-spec = tie.close (tie.spec next-sample-requires cast-t5 returns)

@@ -1,0 +1,38 @@
+-- `string_synth::sample::reach` meets its contract: within the segment or into another, as the definition tests. Assumes nothing.
+use Rattle.string_synth.proofs.Segments.{reach-is}
+use borrow.Author.Needs.{needs}
+use Rattle.string_synth.proofs.sample.reach.Statement.{statement}
+use Rattle.string_synth.proofs.sample.reach.Tie as tie
+
+whole-part-requires : tie.Need-whole-part-requires
+whole-part-requires c κs = search needs
+
+in-segment-requires : tie.Need-in-segment-requires
+in-segment-requires c κs = search needs
+
+stay-requires : tie.Need-stay-requires
+stay-requires c κs = search needs
+
+cross-requires : tie.Need-cross-requires
+cross-requires c κs = search needs
+
+returns : tie.Need-returns
+returns c =
+    let t = c .before .before in
+    reach-is _ _ _ _ _ (t .before .whole-part .ensures) (t .in-segment .ensures) (rw (c .before .if1 .taken) (c .stay .ensures))
+
+returns-2 : tie.Need-returns-2
+returns-2 c =
+    let t = c .before .before in
+    reach-is _ _ _ _ _ (t .before .whole-part .ensures) (t .in-segment .ensures) (rw (c .before .if1 .left) (c .cross .ensures))
+
+pub reach-spec : {M : Type 1} → statement M
+reach-spec =
+    tie.close
+    (tie.spec
+    whole-part-requires
+    in-segment-requires
+    stay-requires
+    cross-requires
+    returns
+    returns-2)

@@ -1,0 +1,19 @@
+-- `string_synth::sample::sample` meets its contract. Assumes nothing.
+use Rattle.string_synth.proofs.Segments.{reached-small}
+use Rattle.string_synth.specs.Sample.{sampleOf}
+use borrow.Author.Needs.{needs}
+use Rattle.string_synth.proofs.sample.sample.Statement.{statement}
+use Rattle.string_synth.proofs.sample.sample.Tie as tie
+
+reach-requires : tie.Need-reach-requires
+reach-requires c κs = search needs
+
+finish-requires : tie.Need-finish-requires
+finish-requires c κs = rw (c .reach .ensures) (reached-small _ _)
+
+returns : tie.Need-returns
+unfolding sampleOf
+returns c = cc
+
+pub sample-spec : {M : Type 1} → statement M
+sample-spec = tie.close (tie.spec reach-requires finish-requires returns)

@@ -1,0 +1,17 @@
+-- `string_synth::sample::wrap_segment` meets its contract: each way of the test is the definition's. Assumes nothing.
+use borrow.Author.Tests.{eq-eqb, ne-eqb}
+use borrow.Author.Needs.{needs}
+use Rattle.string_synth.proofs.sample.wrap_segment.Statement.{statement}
+use Rattle.string_synth.proofs.sample.wrap_segment.Tie as tie
+
+sub-result : tie.Need-sub-result
+sub-result c = search needs
+
+returns : tie.Need-returns
+returns c = rw (eq-eqb _ 8 (c .if1 .taken))
+
+returns-2 : tie.Need-returns-2
+returns-2 c = rw (ne-eqb _ 8 (c .if1 .left))
+
+pub wrap-segment-spec : {M : Type 1} → statement M
+wrap-segment-spec = tie.close (tie.spec sub-result returns returns-2)

@@ -1,0 +1,184 @@
+// One sample of the string synth, in the source's order.
+ghost use mathlib.Core.Path.{_≡_};
+ghost use Prim.Native.Nat.{_≤_};
+ghost use Rattle.string_synth.specs.Sample.{isSegment, lessIf, discontinuityOf, wrappedPhase, wrappedSegment, blepOf, softened, stayed, crossed, reachedOf, nextSample, finish as finished, sampleOf};
+use crate::State;
+use block::Counts;
+use std::num::nearest_u32_to_f32;
+
+// The frequency of the saws, and how loud each of the four is.
+pub struct Saws {
+    pub frequency: f32,
+    pub saw_8_gain: f32,
+    pub saw_4_gain: f32,
+    pub saw_2_gain: f32,
+    pub saw_1_gain: f32,
+}
+
+// Where a step has brought the phase: a sample in the making. Its segment is no more negative than a whole part is.
+pub struct Reached {
+    pub phase: f32,
+    pub segment: u32,
+    pub this_sample: f32,
+    pub next_sample: f32,
+    pub cycles: u32,
+    pub rises: u32,
+}
+
+pub struct Sampled {
+    pub state: State,
+    pub sample: f32,
+    pub counts: Counts,
+}
+
+// Whether the phase is still in the state's segment.
+fn in_segment(s: State, whole: u32) -> bool
+    requires { ⌜ whole ≤ 131072 ⌝ }
+    ensures { λ r. ⌜ r ≡ isSegment whole (s .segment) ⌝ }
+{
+    whole as i32 == s.segment
+}
+
+// A gain taken off, where its saw falls.
+fn less_if(falls: bool, discontinuity: f32, gain: f32) -> f32
+    ensures { λ r. ⌜ r ≡ lessIf falls discontinuity gain ⌝ }
+{
+    if falls {
+        discontinuity - gain
+    } else {
+        discontinuity
+    }
+}
+
+// How far the saws fall together at the start of a segment.
+fn discontinuity(wraps: bool, segment: u32, saws: Saws) -> f32
+    ensures { λ r. ⌜ r ≡ discontinuityOf wraps segment saws ⌝ }
+{
+    let of_8 = less_if(wraps, 0.0, saws.saw_8_gain);
+    let of_4 = less_if((segment & 3) == 0, of_8, saws.saw_4_gain);
+    let of_2 = less_if((segment & 1) == 0, of_4, saws.saw_2_gain);
+    of_2 - saws.saw_1_gain
+}
+
+fn wrap_phase(phase: f32, wraps: bool) -> f32
+    ensures { λ r. ⌜ r ≡ wrappedPhase phase wraps ⌝ }
+{
+    if wraps { phase - 8.0 } else { phase }
+}
+
+fn wrap_segment(whole: u32) -> u32
+    ensures { λ r. ⌜ r ≡ wrappedSegment whole ⌝ }
+{
+    if whole == 8 { whole - 8 } else { whole }
+}
+
+// The fall, band-limited.
+fn blep(e: Reached, discontinuity: f32, frequency: f32) -> Reached
+    ensures { λ r. ⌜ r ≡ blepOf e discontinuity frequency ⌝ }
+{
+    let fraction = e.phase - nearest_u32_to_f32(e.segment);
+    let t = fraction / frequency;
+    Reached {
+        phase: e.phase,
+        segment: e.segment,
+        this_sample: e.this_sample + polyblep::this_blep_sample(t) * discontinuity,
+        next_sample: e.next_sample + polyblep::next_blep_sample(t) * discontinuity,
+        cycles: e.cycles,
+        rises: e.rises,
+    }
+}
+
+fn soften(e: Reached, discontinuity: f32, frequency: f32) -> Reached
+    ensures { λ r. ⌜ r ≡ softened e discontinuity frequency ⌝ }
+{
+    if discontinuity != 0.0 {
+        blep(e, discontinuity, frequency)
+    } else {
+        e
+    }
+}
+
+// Within a segment.
+fn stay(s: State, phase: f32, whole: u32) -> Reached
+    ensures { λ r. ⌜ r ≡ stayed s phase whole ⌝ }
+{
+    Reached {
+        phase,
+        segment: whole,
+        this_sample: s.next_sample,
+        next_sample: 0.0,
+        cycles: 0,
+        rises: 0,
+    }
+}
+
+// Into another segment.
+fn cross(s: State, saws: Saws, phase: f32, whole: u32) -> Reached
+    ensures { λ r. ⌜ r ≡ crossed s saws phase whole ⌝ }
+{
+    let wraps = whole == 8;
+    let segment = wrap_segment(whole);
+    let e = Reached {
+        phase: wrap_phase(phase, wraps),
+        segment,
+        this_sample: s.next_sample,
+        next_sample: 0.0,
+        cycles: block::one_if(wraps),
+        rises: 1,
+    };
+    soften(e, discontinuity(wraps, segment, saws), saws.frequency)
+}
+
+fn reach(s: State, saws: Saws) -> Reached
+    ensures { λ r. ⌜ r ≡ reachedOf s saws ⌝ }
+{
+    let phase = s.phase + saws.frequency;
+    let whole = whole_part::whole_part(phase);
+    if in_segment(s, whole) {
+        stay(s, phase, whole)
+    } else {
+        cross(s, saws, phase, whole)
+    }
+}
+
+// What the next sample starts with: the four saws, each about zero.
+fn next_sample(e: Reached, saws: Saws) -> f32
+    ensures { λ r. ⌜ r ≡ nextSample e saws ⌝ }
+{
+    let of_8 = e.next_sample + (e.phase - 4.0) * saws.saw_8_gain * 0.125;
+    let of_4 = of_8 + (e.phase - nearest_u32_to_f32(e.segment & 4) - 2.0) * saws.saw_4_gain * 0.25;
+    let of_2 = of_4 + (e.phase - nearest_u32_to_f32(e.segment & 6) - 1.0) * saws.saw_2_gain * 0.5;
+    of_2 + (e.phase - nearest_u32_to_f32(e.segment & 7) - 0.5) * saws.saw_1_gain
+}
+
+// The end of a sample, which is added to what the buffer held.
+fn finish(e: Reached, saws: Saws, held: f32) -> Sampled
+    requires { ⌜ e .segment ≤ 131072 ⌝ }
+    ensures { λ r. ⌜ r ≡ finished e saws held ⌝ }
+{
+    Sampled {
+        state: State {
+            phase: e.phase,
+            next_sample: next_sample(e, saws),
+            segment: e.segment as i32,
+            frequency: saws.frequency,
+            saw_8_gain: saws.saw_8_gain,
+            saw_4_gain: saws.saw_4_gain,
+            saw_2_gain: saws.saw_2_gain,
+            saw_1_gain: saws.saw_1_gain,
+        },
+        sample: held + 2.0 * e.this_sample,
+        counts: Counts {
+            cycles: e.cycles,
+            rises: e.rises,
+            falls: 0,
+            cuts: 0,
+        },
+    }
+}
+
+pub(crate) fn sample(s: State, saws: Saws, held: f32) -> Sampled
+    ensures { λ r. ⌜ r ≡ sampleOf s saws held ⌝ }
+{
+    finish(reach(s, saws), saws, held)
+}

@@ -1,0 +1,24 @@
+-- The three ways of a sample of the variable saw, from their parts: a rise, a wrap, or neither. Assumes nothing.
+use mathlib.Core.Path.{_≡_}
+use mathlib.Core.Bool.{true, false, not, _&&_}
+use lib.Ieee.{Float, le}
+use Rattle.floats.specs.F32.{one32}
+use Rattle.block.specs.declared.Edge.{Edge}
+use Rattle.variable_saw.specs.declared.State.{State}
+use Rattle.variable_saw.specs.declared.sample.Wave.{Wave}
+use Rattle.variable_saw.specs.declared.sample.Sampled.{Sampled}
+use Rattle.variable_saw.specs.Sample.{waveOf, riseOf, wrapOf, edgeOf, finish, sampleOf}
+
+module _ (s : State) (frequency pw waveshape : Float) (w : Wave) (e : Edge) (r : Sampled) (at-w : w ≡ waveOf pw waveshape) (at-e : e ≡ edgeOf s frequency) where
+  pub sample-rises : (a : Edge) → (not (e .high) && le pw (e .phase)) ≡ true → a ≡ riseOf w frequency (s .«previous_pw») e → r ≡ finish w frequency 0 a → r ≡ sampleOf s frequency pw waveshape
+  unfolding sampleOf
+  sample-rises a t at-a at-r = rw (at-r, at-a, at-w, at-e, rw at-e at t)
+
+  module _ (t : (not (e .high) && le pw (e .phase)) ≡ false) where
+    pub sample-wraps : (a : Edge) → le one32 (e .phase) ≡ true → a ≡ wrapOf w frequency e → r ≡ finish w frequency 1 a → r ≡ sampleOf s frequency pw waveshape
+    unfolding sampleOf
+    sample-wraps a o at-a at-r = rw (at-r, at-a, at-w, at-e, rw at-e at t, rw at-e at o)
+
+    pub sample-stays : le one32 (e .phase) ≡ false → r ≡ finish w frequency 0 e → r ≡ sampleOf s frequency pw waveshape
+    unfolding sampleOf
+    sample-stays o at-r = rw (at-r, at-w, at-e, rw at-e at t, rw at-e at o)

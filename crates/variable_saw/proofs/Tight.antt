@@ -1,0 +1,19 @@
+-- The contract of `render` determines all: any two outcomes that satisfy it coincide. Assumes nothing.
+use mathlib.Core.Path.{_≡_, ap}
+use mathlib.Core.List.{List}
+use lib.Ieee.{Float}
+use Rattle.block.specs.Calls.{Call}
+use Rattle.block.proofs.Contracts.{coincide, same-answer}
+use Rattle.variable_saw.specs.declared.State.{State}
+use Rattle.variable_saw.specs.declared.Rendered.{Rendered}
+use Rattle.variable_saw.specs.Block.{renderOf, left}
+
+-- two calls with the same arguments: what they return is equal field by field, and so are the buffers that they leave
+pub tight : (s : State) (frequency pw waveshape : Float) (xs : List Float) (r q : Rendered) (ys zs : List Float)
+    → left r ys ≡ renderOf s frequency pw waveshape xs → left q zs ≡ renderOf s frequency pw waveshape xs → (r ≡ q) × (ys ≡ zs)
+tight s frequency pw waveshape xs r q ys zs h k =
+    let e = coincide h k in
+    let answer = same-answer (r .answer) (q .answer) (ap (λ (c : Call State). c .number) e) (ap (λ (c : Call State). c .index) e) in
+    let state = ap (λ (c : Call State). c .state) e in
+    let counts = ap (λ (c : Call State). c .counts) e in
+    (rw (answer, state, counts), ap (λ (c : Call State). c .samples) e)

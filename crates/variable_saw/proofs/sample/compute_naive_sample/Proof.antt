@@ -1,0 +1,18 @@
+-- `variable_saw::sample::compute_naive_sample` meets its contract. Assumes nothing.
+use Rattle.variable_saw.specs.Sample.{naive}
+use borrow.Author.Needs.{needs}
+use Rattle.variable_saw.proofs.sample.compute_naive_sample.Statement.{statement}
+use Rattle.variable_saw.proofs.sample.compute_naive_sample.Tie as tie
+
+notch-saw-requires : tie.Need-notch-saw-requires
+notch-saw-requires c κs = search needs
+
+triangle-requires : tie.Need-triangle-requires
+triangle-requires c κs = search needs
+
+returns : tie.Need-returns
+unfolding naive
+returns c = cc
+
+pub compute-naive-sample-spec : {M : Type 1} → statement M
+compute-naive-sample-spec = tie.close (tie.spec notch-saw-requires triangle-requires returns)

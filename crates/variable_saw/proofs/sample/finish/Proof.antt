@@ -1,0 +1,15 @@
+-- `variable_saw::sample::finish` meets its contract. Assumes nothing.
+use Rattle.variable_saw.specs.Sample.{finish}
+use borrow.Author.Needs.{needs}
+use Rattle.variable_saw.proofs.sample.finish.Statement.{statement}
+use Rattle.variable_saw.proofs.sample.finish.Tie as tie
+
+compute-naive-sample-requires : tie.Need-compute-naive-sample-requires
+compute-naive-sample-requires c κs = search needs
+
+returns : tie.Need-returns
+unfolding finish
+returns c = cc
+
+pub finish-spec : {M : Type 1} → statement M
+finish-spec = tie.close (tie.spec compute-naive-sample-requires returns)

@@ -1,0 +1,84 @@
+-- A whole call of the variable saw: variable_saw_oscillator.rs, lines 44 to 111, with 01's refusals before it. Assumes nothing.
+use mathlib.Core.Bool.{Bool, false, not, _&&_, cond}
+use mathlib.Core.List.{List, [], _∷_}
+use Prim.Native.Nat.{ℕ}
+use lib.Dec.{T, ltb}
+use lib.ListN.{length}
+use lib.Ieee.{Float, binary32, fits}
+use Rattle.floats.specs.F32.{f32, zero32, half32, topSum}
+use Rattle.parameter_interpolator.specs.declared.ParameterInterpolator.{ParameterInterpolator}
+use Rattle.parameter_interpolator.specs.Interpolator.{newInterpolator}
+use Rattle.block.specs.declared.Room.{Room}
+use Rattle.block.specs.declared.Room.the-variants.{Frequency, PulseWidth, Waveshape}
+use Rattle.block.specs.Targets.{clipped, clampedWidth}
+use Rattle.block.specs.Answers.{numberOf, indexOf}
+use Rattle.block.specs.Ranges.{within, phaseIn, frequencyIn, parameterFrequencyIn, unitIn, waveshapeIn}
+use Rattle.block.specs.Calls.{Call, refusal, run}
+use Rattle.block.specs.Account.{usedBy}
+use Rattle.variable_saw.specs.declared.State.{State}
+use Rattle.variable_saw.specs.declared.Rendered.{Rendered}
+use Rattle.variable_saw.specs.Sample.{sampleAt}
+
+-- the source's `Default`
+abbrev pub newState : State
+newState = record { phase = zero32; «next_sample» = zero32; «previous_pw» = zero32; high = false; frequency = zero32; pw = zero32; waveshape = zero32 }
+
+-- lines 32 to 41; the frequency is 0.01
+abbrev pub initState : State
+initState = record { phase = zero32; «next_sample» = zero32; «previous_pw» = half32; high = false; frequency = f32 0x3c23_d70a; pw = half32; waveshape = zero32 }
+
+-- 01, "State": the phase is at least 0, and below 1 when `high` is false, at most 81/64 when it is true
+abbrev pub sawPhaseIn : Bool → Float → Bool
+sawPhaseIn high phase = cond high (within zero32 topSum phase) (phaseIn phase)
+
+-- the widths 0 to 1, the frequency 0 to 17/64, the waveshape -1 to 2, `next_sample` any bits
+unfoldable pub stateIn : State → Bool
+stateIn s =
+    (((sawPhaseIn (s .high) (s .phase) && unitIn (s .«previous_pw»)) && frequencyIn (s .frequency)) && unitIn (s .pw)) && waveshapeIn (s .waveshape)
+
+-- 01, "Parameters": the frequency from MIN_FREQUENCY to 1, the width and the waveshape from 0 to 1
+unfoldable pub parametersIn : Float → Float → Float → Bool
+parametersIn frequency pw waveshape = (parameterFrequencyIn frequency && unitIn pw) && unitIn waveshape
+
+-- lines 45 to 58: the width's target is what the clipped frequency allows
+abbrev pub interpolators : State → Float → Float → Float → ℕ → List ParameterInterpolator
+interpolators s frequency pw waveshape n =
+    newInterpolator (s .frequency) (clipped frequency) n
+    ∷ newInterpolator (s .pw) (clampedWidth (clipped frequency) pw) n
+    ∷ newInterpolator (s .waveshape) waveshape n
+    ∷ []
+
+abbrev pub rooms : List Room
+rooms = Frequency ∷ PulseWidth ∷ Waveshape ∷ []
+
+-- 01's checks 1, 3, 4 and 6, in this order, and then the samples
+unfoldable pub renderOf : State → Float → Float → Float → List Float → Call State
+renderOf s frequency pw waveshape xs =
+    cond (ltb 4096 (length xs)) (refusal 1 0 s xs)
+    (cond (not (stateIn s)) (refusal 3 0 s xs)
+    (cond (not (parametersIn frequency pw waveshape)) (refusal 4 0 s xs)
+    (run sampleAt rooms (interpolators s frequency pw waveshape (length xs)) s xs)))
+
+-- what a call returned and left in the buffer, in this paper's numbers
+abbrev pub left : Rendered → List Float → Call State
+left r xs = record { number = numberOf (r .answer); index = indexOf (r .answer); state = r .state; counts = r .counts; samples = xs }
+
+-- for chains: one call's arguments, the call, and the steps of the frequency that it used
+pub record Arguments : Type 0 where
+  pub frequency : Float
+  pub pw : Float
+  pub waveshape : Float
+  pub buffer : List Float
+
+abbrev pub callOf : State → Arguments → Call State
+callOf s a = renderOf s (a .frequency) (a .pw) (a .waveshape) (a .buffer)
+
+abbrev pub moving : State → Arguments → List ParameterInterpolator
+moving s a = interpolators s (a .frequency) (a .pw) (a .waveshape) (length (a .buffer))
+
+abbrev pub usedOf : State → Arguments → List Float
+usedOf s a = usedBy (callOf s a) 0 (length (a .buffer)) (moving s a)
+
+-- the state's phase is a binary32 value, as that of every `State` of a program is
+abbrev pub Phase32 : State → Type 0
+Phase32 s = T (fits binary32 (s .phase))

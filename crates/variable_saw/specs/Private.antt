@@ -1,0 +1,49 @@
+-- What the crate's own functions ask of each other. No public contract cites it. Assumes nothing.
+use mathlib.Core.Path.{_≡_}
+use mathlib.Core.Bool.{Bool, true, false}
+use mathlib.Core.List.{List}
+use Prim.Native.Nat.{ℕ, suc, _*_, _≤_}
+use lib.ListN.{length}
+use lib.Ieee.{Float}
+use Rattle.floats.proofs.Ticks.{tick, cycle}
+use Rattle.floats.proofs.Ranges.{Under}
+use Rattle.parameter_interpolator.specs.declared.ParameterInterpolator.{ParameterInterpolator}
+use Rattle.block.specs.declared.Answer.{Answer}
+use Rattle.block.specs.declared.Found.the-variants.{Nowhere}
+use Rattle.block.specs.Counting.{noCounts}
+use Rattle.block.specs.Ranges.{frequencyIn, unitIn, waveshapeIn}
+use Rattle.block.specs.Steps.{stepsOf, firstOutside}
+use Rattle.block.specs.Play.{play}
+use Rattle.block.specs.Calls.{Call, done}
+use Rattle.variable_saw.specs.declared.State.{State}
+use Rattle.variable_saw.specs.declared.Rendered.{Rendered}
+use Rattle.variable_saw.specs.Sample.{sampleAt}
+use Rattle.variable_saw.specs.Block.{rooms}
+
+-- what the phase stays below: 1 when `high` is false; when it is true, the next number of units after 81/64
+abbrev pub reach : Bool → ℕ
+reach false = cycle
+reach true = suc (21233664 * tick)
+
+-- the phase is a binary32 value of at least 0 within its reach, and the others pass their tests
+pub record Valid (s : State) : Type 0 where
+  pub phase : Under (s .phase) (reach (s .high))
+  pub previous-pw : unitIn (s .«previous_pw») ≡ true
+  pub frequency : frequencyIn (s .frequency) ≡ true
+  pub pw : unitIn (s .pw) ≡ true
+  pub waveshape : waveshapeIn (s .waveshape) ≡ true
+
+-- what is left to find out is whether a step leaves its room
+pub record Fit (s : State) (xs : List Float) : Type 0 where
+  pub short : length xs ≤ 4096
+  pub valid : Valid s
+
+pub record Playable (s : State) (ps : List ParameterInterpolator) (xs : List Float) : Type 0 where
+  pub fit : Fit s xs
+  pub inside : firstOutside rooms (stepsOf (length xs) ps) ≡ Nowhere
+
+abbrev pub playedOf : State → List ParameterInterpolator → List Float → Call State
+playedOf s ps xs = done (play sampleAt s noCounts (stepsOf (length xs) ps) xs)
+
+abbrev pub refused : Answer → State → Rendered
+refused answer s = record { answer = answer; state = s; counts = noCounts }

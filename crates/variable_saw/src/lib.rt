@@ -1,0 +1,184 @@
+// A saw with variable slope or notch: the source's oscillator/variable_saw_oscillator.rs.
+ghost use mathlib.Core.Path.{_≡_};
+ghost use mathlib.Core.List.{[], _∷_};
+ghost use Rattle.block.specs.Calls.{run};
+ghost use Rattle.variable_saw.specs.Sample.{sampleAt};
+ghost use Rattle.variable_saw.specs.Block.{newState, initState, sawPhaseIn, stateIn, parametersIn, rooms, renderOf, left};
+ghost use Rattle.variable_saw.specs.Private.{Fit, Playable, playedOf, refused};
+use block::Answer;
+use block::Counts;
+use block::Found;
+use block::Room;
+use parameter_interpolator::ParameterInterpolator;
+
+mod sample;
+
+pub struct State {
+    pub phase: f32,
+    pub next_sample: f32,
+    pub previous_pw: f32,
+    pub high: bool,
+    pub frequency: f32,
+    pub pw: f32,
+    pub waveshape: f32,
+}
+
+// What a call gives.
+pub struct Rendered {
+    pub answer: Answer,
+    pub state: State,
+    pub counts: Counts,
+}
+
+pub fn new() -> State
+    ensures { λ r. ⌜ r ≡ newState ⌝ }
+{
+    State {
+        phase: 0.0,
+        next_sample: 0.0,
+        previous_pw: 0.0,
+        high: false,
+        frequency: 0.0,
+        pw: 0.0,
+        waveshape: 0.0,
+    }
+}
+
+pub fn init() -> State
+    ensures { λ r. ⌜ r ≡ initState ⌝ }
+{
+    State {
+        phase: 0.0,
+        next_sample: 0.0,
+        previous_pw: 0.5,
+        high: false,
+        frequency: 0.01,
+        pw: 0.5,
+        waveshape: 0.0,
+    }
+}
+
+// Renders a block into `out`, from the frequency, width and waveshape that the last block ended with to these.
+pub fn render(state: State, frequency: f32, pw: f32, waveshape: f32, out: &mut [f32]) -> Rendered
+    ensures { λ r. ⌜ left r (now (out .exit)) ≡ renderOf state frequency pw waveshape (now (out .entry)) ⌝ }
+{
+    if out.len() > 4096 {
+        return refuse(Answer::LongBlock, state);
+    }
+    if !state_in(state) {
+        return refuse(Answer::BadState, state);
+    }
+    if !parameters_in(frequency, pw, waveshape) {
+        return refuse(Answer::BadParam, state);
+    }
+    let n = out.len() as u32;
+    let target = block::targets::clip(frequency);
+    let width = block::targets::clamp_width(target, pw);
+    let fm = ParameterInterpolator::new(state.frequency, target, n);
+    let pwm = ParameterInterpolator::new(state.pw, width, n);
+    let waveshape_modulation = ParameterInterpolator::new(state.waveshape, waveshape, n);
+    drift_or_play(state, fm, pwm, waveshape_modulation, out)
+}
+
+// A phase is below 1, but while `high` it may be up to 81/64: a rise and a wrap exclude each other in one sample.
+fn saw_phase_in(high: bool, phase: f32) -> bool
+    ensures { λ r. ⌜ r ≡ sawPhaseIn high phase ⌝ }
+{
+    if high {
+        block::ranges::within(0.0, 1.265625, phase)
+    } else {
+        block::ranges::phase_in(phase)
+    }
+}
+
+fn state_in(s: State) -> bool
+    ensures { λ r. ⌜ r ≡ stateIn s ⌝ }
+{
+    saw_phase_in(s.high, s.phase)
+        & block::ranges::unit_in(s.previous_pw)
+        & block::ranges::frequency_in(s.frequency)
+        & block::ranges::unit_in(s.pw)
+        & block::ranges::waveshape_in(s.waveshape)
+}
+
+fn parameters_in(frequency: f32, pw: f32, waveshape: f32) -> bool
+    ensures { λ r. ⌜ r ≡ parametersIn frequency pw waveshape ⌝ }
+{
+    block::ranges::parameter_frequency_in(frequency)
+        & block::ranges::unit_in(pw)
+        & block::ranges::unit_in(waveshape)
+}
+
+fn refuse(answer: Answer, state: State) -> Rendered
+    ensures { λ r. ⌜ r ≡ refused answer state ⌝ }
+{
+    Rendered {
+        answer,
+        state,
+        counts: block::none(),
+    }
+}
+
+// Drift where a step leaves its room, else the samples.
+fn drift_or_play(
+    state: State,
+    fm: ParameterInterpolator,
+    pwm: ParameterInterpolator,
+    waveshape_modulation: ParameterInterpolator,
+    out: &mut [f32],
+) -> Rendered
+    requires { ⌜ Fit state (now out) ⌝ }
+    ensures { λ r. ⌜ left r (now (out .exit)) ≡ run sampleAt rooms (fm ∷ pwm ∷ «waveshape_modulation» ∷ []) state (now (out .entry)) ⌝ }
+{
+    let n = out.len() as u32;
+    let still = ParameterInterpolator {
+        value: 0.0,
+        increment: 0.0,
+    };
+    let moving = [fm, pwm, waveshape_modulation, still, still];
+    let kept = [
+        Room::Frequency,
+        Room::PulseWidth,
+        Room::Waveshape,
+        Room::Unused,
+        Room::Unused,
+    ];
+    match block::first_outside(moving, kept, n) {
+        Found::Outside(i) => refuse(Answer::Drift(i), state),
+        Found::Nowhere => play(state, fm, pwm, waveshape_modulation, out),
+    }
+}
+
+// Every sample of the buffer.
+fn play(
+    state: State,
+    fm: ParameterInterpolator,
+    pwm: ParameterInterpolator,
+    waveshape_modulation: ParameterInterpolator,
+    out: &mut [f32],
+) -> Rendered
+    requires { ⌜ Playable state (fm ∷ pwm ∷ «waveshape_modulation» ∷ []) (now out) ⌝ }
+    ensures { λ r. ⌜ left r (now (out .exit)) ≡ playedOf state (fm ∷ pwm ∷ «waveshape_modulation» ∷ []) (now (out .entry)) ⌝ }
+{
+    let mut s = state;
+    let mut frequency = fm;
+    let mut pw = pwm;
+    let mut waveshape = waveshape_modulation;
+    let mut counts = block::none();
+    let mut i = 0;
+    while i < out.len() {
+        frequency = frequency.next();
+        pw = pw.next();
+        waveshape = waveshape.next();
+        let t = sample::sample(s, frequency.value, pw.value, waveshape.value);
+        out[i] = t.sample;
+        s = t.state;
+        counts = block::sum(counts, t.counts);
+        i += 1;
+    }
+    Rendered {
+        answer: Answer::Done,
+        state: s,
+        counts,
+    }
+}

@@ -1,0 +1,169 @@
+// One sample of the variable saw, in the source's order.
+ghost use mathlib.Core.Path.{_≡_};
+ghost use Rattle.variable_saw.specs.Sample.{waveOf, triangleStep, riseTime, notchSaw, triangle as triangleOf, naive, riseOf, wrapOf, edgeOf, finish as finished, sampleOf};
+use crate::State;
+use block::Counts;
+use block::Edge;
+
+const VARIABLE_SAW_NOTCH_DEPTH: f32 = 0.2;
+
+pub struct Sampled {
+    pub state: State,
+    pub sample: f32,
+    pub counts: Counts,
+}
+
+// The waveform of one sample, from its steps of pulse width and waveshape.
+pub struct Wave {
+    pub pw: f32,
+    pub slope_up: f32,
+    pub slope_down: f32,
+    pub triangle_amount: f32,
+    pub notch_amount: f32,
+}
+
+impl Wave {
+    fn new(pw: f32, waveshape: f32) -> Self
+        ensures { λ r. ⌜ r ≡ waveOf pw waveshape ⌝ }
+    {
+        Wave {
+            pw,
+            slope_up: 1.0 / pw,
+            slope_down: 1.0 / (1.0 - pw),
+            triangle_amount: waveshape,
+            notch_amount: 1.0 - waveshape,
+        }
+    }
+}
+
+fn triangle_step(w: Wave, frequency: f32) -> f32
+    ensures { λ r. ⌜ r ≡ triangleStep w frequency ⌝ }
+{
+    (w.slope_up + w.slope_down) * frequency * w.triangle_amount
+}
+
+// How many samples ago the phase came to the width, which moves too.
+fn rise_time(phase: f32, pw: f32, previous_pw: f32, frequency: f32) -> f32
+    ensures { λ r. ⌜ r ≡ riseTime phase pw «previous_pw» frequency ⌝ }
+{
+    (phase - pw) / (previous_pw - pw + frequency)
+}
+
+fn notch_saw(phase: f32, pw: f32) -> f32
+    ensures { λ r. ⌜ r ≡ notchSaw phase pw ⌝ }
+{
+    if phase < pw {
+        phase
+    } else {
+        1.0 + VARIABLE_SAW_NOTCH_DEPTH
+    }
+}
+
+fn triangle(phase: f32, pw: f32, slope_up: f32, slope_down: f32) -> f32
+    ensures { λ r. ⌜ r ≡ triangleOf phase pw «slope_up» «slope_down» ⌝ }
+{
+    if phase < pw {
+        phase * slope_up
+    } else {
+        1.0 - (phase - pw) * slope_down
+    }
+}
+
+fn compute_naive_sample(phase: f32, w: Wave) -> f32
+    ensures { λ r. ⌜ r ≡ naive phase w ⌝ }
+{
+    notch_saw(phase, w.pw) * w.notch_amount
+        + triangle(phase, w.pw, w.slope_up, w.slope_down) * w.triangle_amount
+}
+
+// Up through the width. The phase may have passed 1 too: it then stays there until the next sample.
+fn rise(e: Edge, w: Wave, frequency: f32, previous_pw: f32) -> Edge
+    ensures { λ r. ⌜ r ≡ riseOf w frequency «previous_pw» e ⌝ }
+{
+    let step = triangle_step(w, frequency);
+    let notch = (VARIABLE_SAW_NOTCH_DEPTH + 1.0 - w.pw) * w.notch_amount;
+    let t = rise_time(e.phase, w.pw, previous_pw, frequency);
+    Edge {
+        phase: e.phase,
+        high: true,
+        this_sample: e.this_sample + notch * polyblep::this_blep_sample(t)
+            - step * polyblep::this_integrated_blep_sample(t),
+        next_sample: e.next_sample + notch * polyblep::next_blep_sample(t)
+            - step * polyblep::next_integrated_blep_sample(t),
+        rises: 1,
+        falls: 0,
+    }
+}
+
+// Down through 1, where the phase wraps.
+fn wrap(e: Edge, w: Wave, frequency: f32) -> Edge
+    ensures { λ r. ⌜ r ≡ wrapOf w frequency e ⌝ }
+{
+    let phase = e.phase - 1.0;
+    let step = triangle_step(w, frequency);
+    let notch = (VARIABLE_SAW_NOTCH_DEPTH + 1.0) * w.notch_amount;
+    let t = phase / frequency;
+    Edge {
+        phase,
+        high: false,
+        this_sample: e.this_sample - notch * polyblep::this_blep_sample(t)
+            + step * polyblep::this_integrated_blep_sample(t),
+        next_sample: e.next_sample - notch * polyblep::next_blep_sample(t)
+            + step * polyblep::next_integrated_blep_sample(t),
+        rises: 0,
+        falls: block::one_if(e.high),
+    }
+}
+
+// The step.
+fn edge(s: State, frequency: f32) -> Edge
+    ensures { λ r. ⌜ r ≡ edgeOf s frequency ⌝ }
+{
+    Edge {
+        phase: s.phase + frequency,
+        high: s.high,
+        this_sample: s.next_sample,
+        next_sample: 0.0,
+        rises: 0,
+        falls: 0,
+    }
+}
+
+// The end of a sample.
+fn finish(e: Edge, w: Wave, frequency: f32, cycles: u32) -> Sampled
+    ensures { λ r. ⌜ r ≡ finished w frequency cycles e ⌝ }
+{
+    Sampled {
+        state: State {
+            phase: e.phase,
+            next_sample: e.next_sample + compute_naive_sample(e.phase, w),
+            previous_pw: w.pw,
+            high: e.high,
+            frequency,
+            pw: w.pw,
+            waveshape: w.triangle_amount,
+        },
+        sample: (2.0 * e.this_sample - 1.0) / (1.0 + VARIABLE_SAW_NOTCH_DEPTH),
+        counts: Counts {
+            cycles,
+            rises: e.rises,
+            falls: e.falls,
+            cuts: 0,
+        },
+    }
+}
+
+// A rise or else a wrap, never both.
+pub(crate) fn sample(s: State, frequency: f32, pw: f32, waveshape: f32) -> Sampled
+    ensures { λ r. ⌜ r ≡ sampleOf s frequency pw waveshape ⌝ }
+{
+    let w = Wave::new(pw, waveshape);
+    let e = edge(s, frequency);
+    if !e.high & (e.phase >= pw) {
+        finish(rise(e, w, frequency, s.previous_pw), w, frequency, 0)
+    } else if e.phase >= 1.0 {
+        finish(wrap(e, w, frequency), w, frequency, 1)
+    } else {
+        finish(e, w, frequency, 0)
+    }
+}

@@ -1,0 +1,8 @@
+-- The laws of the variable shape.
+pub mod Edges
+pub mod States
+pub mod Keeping
+pub mod Loop
+pub mod Calls
+pub mod Phase
+pub mod Tight

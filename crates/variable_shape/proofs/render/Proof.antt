@@ -1,0 +1,88 @@
+-- `variable_shape::render` meets its contract: each way out is the definition's. Assumes nothing.
+use Rattle.variable_shape.proofs.Calls.{long-block, bad-state, bad-param, starts, rendered}
+use Rattle.variable_shape.proofs.States.{valid-of}
+use borrow.Author.Tests.{not-true, not-false}
+use lib.Dec.{T}
+use mathlib.Core.Path.{_∙_, sym, subst}
+use borrow.Author.Needs.{needs}
+use Rattle.variable_shape.proofs.render.Statement.{statement}
+use Rattle.variable_shape.proofs.render.Tie as tie
+
+refuse-requires : tie.Need-refuse-requires
+refuse-requires c κs = search needs
+
+returns : tie.Need-returns
+returns c = long-block _ _ _ _ _ _ _ _ _ _ (c .before .if1 .taken) (c .refuse .ensures)
+
+state-in-requires : tie.Need-state-in-requires
+state-in-requires c κs = search needs
+
+refuse-requires-2 : tie.Need-refuse-requires-2
+refuse-requires-2 c κs = search needs
+
+returns-2 : tie.Need-returns-2
+returns-2 c =
+    let t = c .before .before in
+    bad-state _ _ _ _ _ _ _ _ _ _ (t .before .if1 .left) (sym (t .state-in .ensures) ∙ not-true _ (c .before .if2 .taken)) (c .refuse2 .ensures)
+
+parameters-in-requires : tie.Need-parameters-in-requires
+parameters-in-requires c κs = search needs
+
+refuse-requires-3 : tie.Need-refuse-requires-3
+refuse-requires-3 c κs = search needs
+
+returns-3 : tie.Need-returns-3
+returns-3 c =
+    let p = c .before .before in
+    let t = p .before .before in
+    bad-param _ _ _ _ _ _ _ _ _ _ (t .before .if1 .left) (sym (t .state-in .ensures) ∙ not-false _ (p .before .if2 .left)) (sym (p .parameters-in .ensures) ∙ not-true _ (c .before .if3 .taken)) (c .refuse3 .ensures)
+
+cast-n : tie.Need-cast-n
+cast-n c = search needs
+
+start-requires : tie.Need-start-requires
+start-requires c κs = search needs
+
+drift-or-play-requires : tie.Need-drift-or-play-requires
+drift-or-play-requires c κs =
+    let b = c .before in
+    let p = b .before .before in
+    let t = p .before .before in
+    let a = t .before .before .before in
+    let g = a .good .0 in
+    record {
+      short = t .before .if1 .left;
+      valid = valid-of _ (sym (t .state-in .ensures) ∙ not-false _ (p .before .if2 .left)) (subst T (sym (g .1 .1 .0 .1)) tt) (subst T (sym (g .1 .1 .1 .0 .1)) tt);
+      start = starts (a .args .state) _ _ _ _ _ _ _ (b .start .ensures);
+    }
+
+same-length : tie.Need-same-length
+same-length c = search needs
+
+returns-4 : tie.Need-returns-4
+returns-4 c =
+    let d = c .before .before in
+    let b = d .before .before in
+    let e = b .before in
+    let p = e .before in
+    let t = p .before .before in
+    rendered _ _ _ _ _ _ _ _ _ (d .drift-or-play .result) (t .before .if1 .left) (sym (t .state-in .ensures) ∙ not-false _ (p .before .if2 .left)) (sym (p .parameters-in .ensures) ∙ not-false _ (e .if3 .left))
+    _ _ (b .start .ensures) (d .drift-or-play .ensures)
+
+pub render-spec : {M : Type 1} → statement M
+render-spec =
+    tie.close
+    (tie.spec
+    refuse-requires
+    returns
+    state-in-requires
+    refuse-requires-2
+    returns-2
+    parameters-in-requires
+    refuse-requires-3
+    returns-3
+    cast-n
+    start-requires
+    drift-or-play-requires
+    same-length
+    returns-4)

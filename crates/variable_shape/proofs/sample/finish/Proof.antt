@@ -1,0 +1,18 @@
+-- `variable_shape::sample::finish` meets its contract. Assumes nothing.
+use Rattle.variable_shape.specs.Sample.{finish}
+use borrow.Author.Needs.{needs}
+use Rattle.variable_shape.proofs.sample.finish.Statement.{statement}
+use Rattle.variable_shape.proofs.sample.finish.Tie as tie
+
+naive-requires : tie.Need-naive-requires
+naive-requires c κs = search needs
+
+output-requires : tie.Need-output-requires
+output-requires c κs = search needs
+
+returns : tie.Need-returns
+unfolding finish
+returns c = cc
+
+pub finish-spec : {M : Type 1} → statement M
+finish-spec = tie.close (tie.spec naive-requires output-requires returns)

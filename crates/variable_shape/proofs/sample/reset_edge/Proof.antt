@@ -1,0 +1,59 @@
+-- `variable_shape::sample::reset_edge` meets its contract. Assumes nothing.
+use mathlib.Core.Path.{sym, subst}
+use Rattle.block.proofs.Crossings.{Crossable}
+use Rattle.variable_shape.proofs.Edges.{cut-crossable, reset-edge-is}
+use borrow.Author.Needs.{needs}
+use Rattle.variable_shape.proofs.sample.reset_edge.Statement.{statement}
+use Rattle.variable_shape.proofs.sample.reset_edge.Tie as tie
+
+slave-at-reset-requires : tie.Need-slave-at-reset-requires
+slave-at-reset-requires c κs = search needs
+
+wrap-once-requires : tie.Need-wrap-once-requires
+wrap-once-requires c κs = search needs
+
+naive-requires : tie.Need-naive-requires
+naive-requires c κs = search needs
+
+edge-requires : tie.Need-edge-requires
+edge-requires c κs = search needs
+
+cut-requires : tie.Need-cut-requires
+cut-requires c κs = search needs
+
+transition-during-reset-requires : tie.Need-transition-during-reset-requires
+transition-during-reset-requires c κs = search needs
+
+cross-requires : tie.Need-cross-requires
+cross-requires c κs =
+    let b = c .before .before .before in
+    let k = b .before .before .before .before .pre in
+    record { edge = cut-crossable _ _ _ _ (c .before .before .cut .ensures) (subst Crossable (sym (b .edge .ensures)) (k .edge)); width = k .width }
+
+returns : tie.Need-returns
+returns c =
+    let t = c .before .before in
+    let b = t .before .before in
+    reset-edge-is _ _ _ _ _ _ _ _ _ _ (b .before .before .before .slave-at-reset .ensures) (b .before .before .wrap-once .ensures) (b .before .naive .ensures) (b .edge .ensures) (t .before .cut .ensures)
+    (t .transition-during-reset .ensures) (rw (c .before .if1 .taken) (c .cross .ensures))
+
+returns-2 : tie.Need-returns-2
+returns-2 c =
+    let t = c .before in
+    let b = t .before .before in
+    reset-edge-is _ _ _ _ _ _ _ _ _ _ (b .before .before .before .slave-at-reset .ensures) (b .before .before .wrap-once .ensures) (b .before .naive .ensures) (b .edge .ensures) (t .before .cut .ensures)
+    (t .transition-during-reset .ensures) (rw (c .if1 .left))
+
+pub reset-edge-spec : {M : Type 1} → statement M
+reset-edge-spec =
+    tie.close
+    (tie.spec
+    slave-at-reset-requires
+    wrap-once-requires
+    naive-requires
+    edge-requires
+    cut-requires
+    transition-during-reset-requires
+    cross-requires
+    returns
+    returns-2)

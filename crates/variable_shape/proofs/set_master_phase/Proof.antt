@@ -1,0 +1,17 @@
+-- `variable_shape::set_master_phase` meets its contract: each way of the test is the definition's. Assumes nothing.
+use mathlib.Core.Path.{sym, _∙_}
+use borrow.Author.Needs.{needs}
+use Rattle.variable_shape.proofs.set_master_phase.Statement.{statement}
+use Rattle.variable_shape.proofs.set_master_phase.Tie as tie
+
+phase-in-requires : tie.Need-phase-in-requires
+phase-in-requires c κs = search needs
+
+returns : tie.Need-returns
+returns c = rw (sym (c .before .phase-in .ensures) ∙ c .if1 .taken)
+
+returns-2 : tie.Need-returns-2
+returns-2 c = rw (sym (c .before .phase-in .ensures) ∙ c .if1 .left)
+
+pub set-master-phase-spec : {M : Type 1} → statement M
+set-master-phase-spec = tie.close (tie.spec phase-in-requires returns returns-2)

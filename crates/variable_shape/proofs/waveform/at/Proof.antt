@@ -1,0 +1,18 @@
+-- `variable_shape::waveform::at` meets its contract. Assumes nothing.
+use Rattle.variable_shape.specs.Waveform.{waveformOf}
+use borrow.Author.Needs.{needs}
+use Rattle.variable_shape.proofs.waveform.at.Statement.{statement}
+use Rattle.variable_shape.proofs.waveform.at.Tie as tie
+
+max-requires : tie.Need-max-requires
+max-requires c κs = search needs
+
+max-requires-2 : tie.Need-max-requires-2
+max-requires-2 c κs = search needs
+
+returns : tie.Need-returns
+unfolding waveformOf
+returns c = cc
+
+pub at-spec : {M : Type 1} → statement M
+at-spec = tie.close (tie.spec max-requires max-requires-2 returns)

@@ -1,0 +1,7 @@
+-- The variable shape, from the source's oscillator/variable_shape_oscillator.rs: its waveform, one sample, the whole call, and the master's phase set.
+pub mod Waveform
+pub mod Sample
+pub mod Block
+pub mod MasterPhase
+pub mod Figures
+pub mod Private

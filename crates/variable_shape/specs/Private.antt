@@ -1,0 +1,90 @@
+-- What the crate's own functions ask of each other. No public contract cites it. Assumes nothing.
+use mathlib.Core.Path.{_≡_}
+use mathlib.Core.Bool.{Bool, true, cond}
+use mathlib.Core.List.{List}
+use Prim.Native.Nat.{_*_, _≤_}
+use lib.ListN.{length}
+use lib.Ieee.{Float}
+use Rattle.floats.proofs.Ticks.{tick, cycle}
+use Rattle.floats.proofs.Ranges.{Under, Positive}
+use Rattle.parameter_interpolator.specs.declared.ParameterInterpolator.{ParameterInterpolator}
+use Rattle.parameter_interpolator.specs.Interpolator.{nextInterpolator}
+use Rattle.block.specs.declared.Answer.{Answer}
+use Rattle.block.specs.declared.Edge.{Edge}
+use Rattle.block.specs.declared.Room.{Room}
+use Rattle.block.specs.declared.Room.the-variants.{Unused, Sixteen}
+use Rattle.block.specs.declared.Found.the-variants.{Nowhere}
+use Rattle.block.specs.Counting.{noCounts}
+use Rattle.block.specs.Ranges.{waveshapeIn, sixteenIn}
+use Rattle.block.specs.Steps.{stepsOf, firstOutside}
+use Rattle.block.specs.Play.{play}
+use Rattle.block.specs.Calls.{Call, done}
+use Rattle.block.proofs.Crossings.{Crossable}
+use Rattle.variable_shape.specs.declared.State.{State}
+use Rattle.variable_shape.specs.declared.Rendered.{Rendered}
+use Rattle.variable_shape.specs.declared.steps.Interpolators.{Interpolators}
+use Rattle.variable_shape.specs.declared.steps.Steps.{Steps}
+use Rattle.variable_shape.specs.Sample.{sampleAt}
+use Rattle.variable_shape.specs.Block.{stateIn, stepping, rooms}
+
+-- a state in its ranges, whose phases are binary32 values
+pub record Valid (s : State) : Type 0 where
+  pub master : Under (s .«master_phase») cycle
+  pub slave : Under (s .«slave_phase») cycle
+  pub ranges : stateIn s ≡ true
+
+-- and steps in their rooms: the frequencies lie above 0 and are at most 17/64, the width is at least 0 and below 1
+pub record Ready (s : State) (steps : Steps) : Type 0 where
+  pub valid : Valid s
+  pub master : Positive (steps .«master_frequency») (4456448 * tick)
+  pub slave : Positive (steps .«slave_frequency») (4456448 * tick)
+  pub width : Under (steps .pw) cycle
+  pub waveshape : waveshapeIn (steps .waveshape) ≡ true
+  pub modulation : sixteenIn (steps .«phase_modulation») ≡ true
+
+-- what the crossing loop starts from
+pub record Crossing (e : Edge) (pw : Float) : Type 0 where
+  pub edge : Crossable e
+  pub width : Under pw cycle
+
+-- what is left to find out is whether a step leaves its room
+pub record Fit (s : State) (p : Interpolators) (xs : List Float) : Type 0 where
+  pub short : length xs ≤ 4096
+  pub valid : Valid s
+  pub start : p .«phase_modulation» .value ≡ s .«phase_modulation»
+
+pub record Playable (phaseOutput : Bool) (s : State) (p : Interpolators) (xs : List Float) : Type 0 where
+  pub fit : Fit s p xs
+  pub inside : firstOutside (rooms phaseOutput) (stepsOf (length xs) (stepping phaseOutput p)) ≡ Nowhere
+
+abbrev pub playedOf : Bool → Bool → State → Interpolators → List Float → Call State
+playedOf sync phaseOutput s p xs = done (play (sampleAt sync phaseOutput) s noCounts (stepsOf (length xs) (stepping phaseOutput p)) xs)
+
+abbrev pub refused : Answer → State → Rendered
+refused answer s = record { answer = answer; state = s; counts = noCounts }
+
+-- the fifth room of the walk
+abbrev pub modulationRoom : Bool → Room
+modulationRoom phaseOutput = cond phaseOutput Sixteen Unused
+
+abbrev pub nextIf : Bool → ParameterInterpolator → ParameterInterpolator
+nextIf on p = cond on (nextInterpolator p) p
+
+-- the interpolators one sample on
+abbrev pub advanced : Bool → Interpolators → Interpolators
+advanced phaseOutput p = record {
+  «master_fm» = nextInterpolator (p .«master_fm»);
+  fm = nextInterpolator (p .fm);
+  pwm = nextInterpolator (p .pwm);
+  «waveshape_modulation» = nextInterpolator (p .«waveshape_modulation»);
+  «phase_modulation» = nextIf phaseOutput (p .«phase_modulation»);
+}
+
+abbrev pub valuesOf : Interpolators → Steps
+valuesOf p = record {
+  «master_frequency» = p .«master_fm» .value;
+  «slave_frequency» = p .fm .value;
+  pw = p .pwm .value;
+  waveshape = p .«waveshape_modulation» .value;
+  «phase_modulation» = p .«phase_modulation» .value;
+}

@@ -1,0 +1,168 @@
+-- One sample of the variable shape: variable_shape_oscillator.rs, lines 96 to 207, in its order. Assumes nothing.
+use mathlib.Core.Bool.{Bool, true, false, _&&_, cond}
+use mathlib.Core.List.{List}
+use Prim.Native.Nat.{ℕ, _+_}
+use lib.ListN.{getD}
+use lib.Ieee.{Float, le}
+use Rattle.floats.specs.F32.{_⊕_, _⊖_, _⊗_, _⊘_, zero32, half32, one32, two32, four32}
+use Rattle.floats.specs.Helpers.{absOf}
+use Rattle.polyblep.specs.Polyblep.{thisBlepSample, nextBlepSample, thisIntegratedBlepSample, nextIntegratedBlepSample}
+use Rattle.block.specs.declared.Edge.{Edge}
+use Rattle.block.specs.Counting.{oneIf}
+use Rattle.block.specs.Crossings.{crossings}
+use Rattle.block.specs.Sync.{slaveAtReset, wrapOnce, transitionDuringReset, cutEdge}
+use Rattle.block.specs.Play.{Sample}
+use Rattle.variable_shape.specs.declared.State.{State}
+use Rattle.variable_shape.specs.declared.steps.Steps.{Steps}
+use Rattle.variable_shape.specs.declared.waveform.Waveform.{Waveform}
+use Rattle.variable_shape.specs.declared.sample.Sampled.{Sampled}
+use Rattle.variable_shape.specs.Waveform.{waveformOf, naiveOf, triangleStepOf}
+
+-- up through the width, lines 149 to 157
+unfoldable pub riseOf : Waveform → Edge → Edge
+riseOf w e =
+    let t = (e .phase ⊖ w .pw) ⊘ (w .«previous_pw» ⊖ w .pw ⊕ w .«slave_frequency») in
+    record {
+      phase = e .phase;
+      high = true;
+      «this_sample» = e .«this_sample» ⊕ w .«square_amount» ⊗ thisBlepSample t ⊖ triangleStepOf w ⊗ thisIntegratedBlepSample t;
+      «next_sample» = e .«next_sample» ⊕ w .«square_amount» ⊗ nextBlepSample t ⊖ triangleStepOf w ⊗ nextIntegratedBlepSample t;
+      rises = e .rises + 1;
+      falls = e .falls;
+    }
+
+-- down through 1, where the phase wraps, lines 164 to 173
+unfoldable pub fallOf : Waveform → Edge → Edge
+fallOf w e =
+    let phase' = e .phase ⊖ one32 in
+    let t = phase' ⊘ w .«slave_frequency» in
+    record {
+      phase = phase';
+      high = false;
+      «this_sample» = e .«this_sample» ⊖ (one32 ⊖ w .«triangle_amount») ⊗ thisBlepSample t ⊕ triangleStepOf w ⊗ thisIntegratedBlepSample t;
+      «next_sample» = e .«next_sample» ⊖ (one32 ⊖ w .«triangle_amount») ⊗ nextBlepSample t ⊕ triangleStepOf w ⊗ nextIntegratedBlepSample t;
+      rises = e .rises;
+      falls = e .falls + 1;
+    }
+
+abbrev pub crossed : Waveform → Edge → Edge
+crossed w e = crossings (w .pw) (riseOf w) (fallOf w) e
+
+-- the slave's step, lines 100, 101 and 141: this sample starts with what the last one left for it
+unfoldable pub edgeOf : State → Float → Edge
+edgeOf s slaveFrequency = record {
+  phase = s .«slave_phase» ⊕ slaveFrequency;
+  high = s .high;
+  «this_sample» = s .«next_sample»;
+  «next_sample» = zero32;
+  rises = 0;
+  falls = 0;
+}
+
+-- the edge of a sample whose master wrapped `time` samples ago, lines 118 to 176: crossed only where a transition falls before the reset
+unfoldable pub resetEdge : State → Waveform → Float → Edge
+resetEdge s w time =
+    let reached = slaveAtReset (s .«slave_phase») (w .«slave_frequency») time in
+    let e = cutEdge (naiveOf w (wrapOnce reached)) time (edgeOf s (w .«slave_frequency»)) in
+    cond (transitionDuringReset (s .high) (w .pw) reached) (crossed w e) e
+
+-- lines 197 and 198: what the sample is multiplied by, so that it is 0 where the phase wraps
+abbrev pub windowOf : Float → Float
+windowOf masterPhase = let w = four32 ⊗ (one32 ⊖ masterPhase) ⊗ masterPhase in w ⊗ (two32 ⊖ w)
+
+-- lines 201 and 202
+abbrev pub phasorOf : Float → Float → Float
+phasorOf masterPhase pw =
+    let p2 = masterPhase ⊗ masterPhase in
+    masterPhase ⊕ (p2 ⊗ p2 ⊖ masterPhase) ⊗ absOf (pw ⊖ half32) ⊗ two32
+
+-- what is put out, lines 193 to 207
+abbrev pub outputOf : Bool → Bool → Float → Float → Float → Float → Float
+outputOf sync phaseOutput masterPhase pw phaseModulation thisSample =
+    cond phaseOutput
+    (cond sync
+    (phasorOf masterPhase pw ⊕ phaseModulation ⊗ (thisSample ⊗ windowOf masterPhase))
+    (masterPhase ⊕ phaseModulation ⊗ thisSample))
+    (two32 ⊗ thisSample ⊖ one32)
+
+-- The phases, the side and the parameters after a sample. The source stores the parameters as it drops their interpolators, and what it stores is
+-- the last step. Line 101: the next sample starts from 0.
+abbrev pub after : Steps → Float → Float → Bool → State
+after steps masterPhase slavePhase high = record {
+  «master_phase» = masterPhase;
+  «slave_phase» = slavePhase;
+  «next_sample» = zero32;
+  «previous_pw» = steps .pw;
+  high = high;
+  «master_frequency» = steps .«master_frequency»;
+  «slave_frequency» = steps .«slave_frequency»;
+  pw = steps .pw;
+  waveshape = steps .waveshape;
+  «phase_modulation» = steps .«phase_modulation»;
+}
+
+-- the end of a sample, lines 183 to 207: s has all that the state keeps but what the next sample starts with
+unfoldable pub finish : Bool → Bool → Waveform → Edge → State → ℕ → ℕ → Sampled
+finish sync phaseOutput w e s cycles cuts = record {
+  state = record {
+    «master_phase» = s .«master_phase»;
+    «slave_phase» = s .«slave_phase»;
+    «next_sample» = e .«next_sample» ⊕ naiveOf w (s .«slave_phase»);
+    «previous_pw» = s .«previous_pw»;
+    high = s .high;
+    «master_frequency» = s .«master_frequency»;
+    «slave_frequency» = s .«slave_frequency»;
+    pw = s .pw;
+    waveshape = s .waveshape;
+    «phase_modulation» = s .«phase_modulation»;
+  };
+  sample = outputOf sync phaseOutput (s .«master_phase») (w .pw) (s .«phase_modulation») (e .«this_sample»);
+  counts = record { cycles = cycles; rises = e .rises; falls = e .falls; cuts = cuts };
+}
+
+-- with a reset, lines 115 to 139 and 178 to 181. 01 counts a cut where it finds `high` true just before clearing it.
+unfoldable pub resetSample : Bool → State → Steps → Float → Sampled
+resetSample phaseOutput s steps masterPhase =
+    let w = waveformOf steps (s .«previous_pw») in
+    let time = masterPhase ⊘ steps .«master_frequency» in
+    let e = resetEdge s w time in
+    finish true phaseOutput w e (after steps masterPhase (time ⊗ steps .«slave_frequency») false) 1 (oneIf (e .high))
+
+-- 01's cycles where no reset is: none of the master's with sync; without, the slave's, which wraps where it falls
+abbrev pub freeCycles : Bool → ℕ → ℕ
+freeCycles sync falls = cond sync 0 falls
+
+-- without one, lines 141 to 176
+unfoldable pub plainSample : Bool → Bool → State → Steps → Float → Sampled
+plainSample sync phaseOutput s steps masterPhase =
+    let w = waveformOf steps (s .«previous_pw») in
+    let e = crossed w (edgeOf s (steps .«slave_frequency»)) in
+    finish sync phaseOutput w e (after steps masterPhase (e .phase) (e .high)) (freeCycles sync (e .falls)) 0
+
+-- lines 112 and 113: the master's phase moves only with sync
+abbrev pub masterStep : Bool → Float → Float → Float
+masterStep sync masterPhase masterFrequency = cond sync (masterPhase ⊕ masterFrequency) masterPhase
+
+unfoldable pub sampleOf : Bool → Bool → State → Steps → Sampled
+sampleOf sync phaseOutput s steps =
+    let masterPhase = masterStep sync (s .«master_phase») (steps .«master_frequency») in
+    cond (sync && le one32 masterPhase)
+    (resetSample phaseOutput s steps (masterPhase ⊖ one32))
+    (plainSample sync phaseOutput s steps masterPhase)
+
+-- A sample's steps in the order of the interpolators. Phase modulation steps only where the phase is put out: else there are four, and the state
+-- keeps its own.
+abbrev pub stepsAt : State → List Float → Steps
+stepsAt s steps = record {
+  «master_frequency» = getD steps 0 zero32;
+  «slave_frequency» = getD steps 1 zero32;
+  pw = getD steps 2 zero32;
+  waveshape = getD steps 3 zero32;
+  «phase_modulation» = getD steps 4 (s .«phase_modulation»);
+}
+
+-- for a block: what the buffer held is overwritten
+abbrev pub sampleAt : Bool → Bool → State → List Float → Float → Sample State
+sampleAt sync phaseOutput s steps x =
+    let t = sampleOf sync phaseOutput s (stepsAt s steps) in
+    record { state = t .state; sample = t .sample; counts = t .counts }

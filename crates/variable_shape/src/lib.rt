@@ -1,0 +1,253 @@
+// A waveform from triangle over saw to square, whose phase can be reset by a master: the source's oscillator/variable_shape_oscillator.rs.
+ghost use mathlib.Core.Path.{_≡_};
+ghost use Rattle.block.specs.Calls.{run};
+ghost use Rattle.variable_shape.specs.Sample.{sampleAt};
+ghost use Rattle.variable_shape.specs.Block.{newState, initState, stateIn, parametersIn, stepping, rooms, renderOf, left};
+ghost use Rattle.variable_shape.specs.MasterPhase.{masterPhaseSet, leftSet};
+ghost use Rattle.variable_shape.specs.Private.{Fit, Playable, playedOf, refused, modulationRoom};
+use block::Answer;
+use block::Counts;
+use block::Found;
+use block::Room;
+use block::ranges;
+use parameter_interpolator::ParameterInterpolator;
+use steps::Interpolators;
+
+mod output;
+mod sample;
+mod steps;
+mod waveform;
+
+pub struct State {
+    pub master_phase: f32,
+    pub slave_phase: f32,
+    pub next_sample: f32,
+    pub previous_pw: f32,
+    pub high: bool,
+    pub master_frequency: f32,
+    pub slave_frequency: f32,
+    pub pw: f32,
+    pub waveshape: f32,
+    pub phase_modulation: f32,
+}
+
+// What a call gives.
+pub struct Rendered {
+    pub answer: Answer,
+    pub state: State,
+    pub counts: Counts,
+}
+
+pub fn new() -> State
+    ensures { λ r. ⌜ r ≡ newState ⌝ }
+{
+    State {
+        master_phase: 0.0,
+        slave_phase: 0.0,
+        next_sample: 0.0,
+        previous_pw: 0.0,
+        high: false,
+        master_frequency: 0.0,
+        slave_frequency: 0.0,
+        pw: 0.0,
+        waveshape: 0.0,
+        phase_modulation: 0.0,
+    }
+}
+
+pub fn init() -> State
+    ensures { λ r. ⌜ r ≡ initState ⌝ }
+{
+    State {
+        master_phase: 0.0,
+        slave_phase: 0.0,
+        next_sample: 0.0,
+        previous_pw: 0.5,
+        high: false,
+        master_frequency: 0.0,
+        slave_frequency: 0.01,
+        pw: 0.5,
+        waveshape: 0.0,
+        phase_modulation: 0.0,
+    }
+}
+
+// What setting the master's phase gives.
+pub struct PhaseSet {
+    pub answer: Answer,
+    pub state: State,
+}
+
+pub fn set_master_phase(state: State, phase: f32) -> PhaseSet
+    ensures { λ r. ⌜ leftSet r ≡ masterPhaseSet state phase ⌝ }
+{
+    if ranges::phase_in(phase) {
+        let mut set = state;
+        set.master_phase = phase;
+        PhaseSet {
+            answer: Answer::Done,
+            state: set,
+        }
+    } else {
+        PhaseSet {
+            answer: Answer::BadParam,
+            state,
+        }
+    }
+}
+
+// The same on a state that is lent, as the source has it.
+pub fn set_master_phase_in(state: &mut State, phase: f32) -> Answer
+    ensures { λ r. ⌜ leftSet (record { answer = r; state = now (state .exit) }) ≡ masterPhaseSet (now (state .entry)) phase ⌝ }
+{
+    let r = set_master_phase(*state, phase);
+    *state = r.state;
+    r.answer
+}
+
+// Renders a block into `out`, from the parameters that the last block ended with to these.
+pub fn render(
+    state: State,
+    master_frequency: f32,
+    frequency: f32,
+    pw: f32,
+    waveshape: f32,
+    phase_modulation: f32,
+    sync: bool,
+    phase_output: bool,
+    out: &mut [f32],
+) -> Rendered
+    ensures { λ r. ⌜ left r (now (out .exit)) ≡ renderOf state «master_frequency» frequency pw waveshape «phase_modulation» sync «phase_output» (now (out .entry)) ⌝ }
+{
+    if out.len() > 4096 {
+        return refuse(Answer::LongBlock, state);
+    }
+    if !state_in(state) {
+        return refuse(Answer::BadState, state);
+    }
+    if !parameters_in(master_frequency, frequency, pw, waveshape, phase_modulation) {
+        return refuse(Answer::BadParam, state);
+    }
+    let n = out.len() as u32;
+    let p = steps::start(
+        state,
+        master_frequency,
+        frequency,
+        pw,
+        waveshape,
+        phase_modulation,
+        n,
+    );
+    drift_or_play(state, p, sync, phase_output, out)
+}
+
+fn state_in(s: State) -> bool
+    ensures { λ r. ⌜ r ≡ stateIn s ⌝ }
+{
+    ranges::phase_in(s.master_phase)
+        & ranges::phase_in(s.slave_phase)
+        & ranges::unit_in(s.previous_pw)
+        & ranges::frequency_in(s.master_frequency)
+        & ranges::frequency_in(s.slave_frequency)
+        & ranges::unit_in(s.pw)
+        & ranges::waveshape_in(s.waveshape)
+        & ranges::sixteen_in(s.phase_modulation)
+}
+
+fn parameters_in(
+    master_frequency: f32,
+    frequency: f32,
+    pw: f32,
+    waveshape: f32,
+    phase_modulation: f32,
+) -> bool
+    ensures { λ r. ⌜ r ≡ parametersIn «master_frequency» frequency pw waveshape «phase_modulation» ⌝ }
+{
+    ranges::parameter_frequency_in(master_frequency)
+        & ranges::parameter_frequency_in(frequency)
+        & ranges::unit_in(pw)
+        & ranges::unit_in(waveshape)
+        & ranges::within(-8.0, 8.0, phase_modulation)
+}
+
+fn refuse(answer: Answer, state: State) -> Rendered
+    ensures { λ r. ⌜ r ≡ refused answer state ⌝ }
+{
+    Rendered {
+        answer,
+        state,
+        counts: block::none(),
+    }
+}
+
+// Phase modulation takes steps only where the phase is put out.
+fn modulation_room(phase_output: bool) -> Room
+    ensures { λ r. ⌜ r ≡ modulationRoom «phase_output» ⌝ }
+{
+    if phase_output {
+        Room::Sixteen
+    } else {
+        Room::Unused
+    }
+}
+
+// Drift where a step leaves its room, else the samples.
+fn drift_or_play(
+    state: State,
+    p: Interpolators,
+    sync: bool,
+    phase_output: bool,
+    out: &mut [f32],
+) -> Rendered
+    requires { ⌜ Fit state p (now out) ⌝ }
+    ensures { λ r. ⌜ left r (now (out .exit)) ≡ run (sampleAt sync «phase_output») (rooms «phase_output») (stepping «phase_output» p) state (now (out .entry)) ⌝ }
+{
+    let n = out.len() as u32;
+    let master_fm = p.master_fm;
+    let fm = p.fm;
+    let pwm = p.pwm;
+    let waveshape_modulation = p.waveshape_modulation;
+    let phase_modulation = p.phase_modulation;
+    let moving = [master_fm, fm, pwm, waveshape_modulation, phase_modulation];
+    let kept = [
+        Room::Frequency,
+        Room::Frequency,
+        Room::PulseWidth,
+        Room::Waveshape,
+        modulation_room(phase_output),
+    ];
+    match block::first_outside(moving, kept, n) {
+        Found::Outside(i) => refuse(Answer::Drift(i), state),
+        Found::Nowhere => play(state, p, sync, phase_output, out),
+    }
+}
+
+// Every sample of the buffer.
+fn play(
+    state: State,
+    interpolators: Interpolators,
+    sync: bool,
+    phase_output: bool,
+    out: &mut [f32],
+) -> Rendered
+    requires { ⌜ Playable «phase_output» state interpolators (now out) ⌝ }
+    ensures { λ r. ⌜ left r (now (out .exit)) ≡ playedOf sync «phase_output» state interpolators (now (out .entry)) ⌝ }
+{
+    let mut s = state;
+    let mut p = interpolators;
+    let mut counts = block::none();
+    let mut i = 0;
+    while i < out.len() {
+        p = steps::advance(p, phase_output);
+        let t = sample::sample(s, steps::values(p), sync, phase_output);
+        out[i] = t.sample;
+        s = t.state;
+        counts = block::sum(counts, t.counts);
+        i += 1;
+    }
+    Rendered {
+        answer: Answer::Done,
+        state: s,
+        counts,
+    }
+}
