@@ -40,12 +40,9 @@ pub top-some : (n top : ℕ) → 2 ≤ n → top ≡ topOf n → 1 ≤ top
 top-some n top h e = rw e (top-most n 1 (omega arith))
 
 -- ---- a state's step, read back from its bits, and the test `step < 0`
-pub not-negative : (z : ℤ) → SFits w32 z → ltZ (toZ w32 (ofZ w32 z)) (pos 0) ≡ false → nonNeg (toZ w32 (ofZ w32 z)) ≡ true
-not-negative z f h = go (toZ w32 (ofZ w32 z)) h
-  where
-    go : (z : ℤ) → ltZ z (pos 0) ≡ false → nonNeg z ≡ true
-    go (pos n) h = refl
-    go (negsuc n) h = absurd (true≢false h)
+pub not-negative : (z : ℤ) → ltZ z (pos 0) ≡ false → nonNeg z ≡ true
+not-negative (pos n) h = refl
+not-negative (negsuc n) h = absurd (true≢false h)
 
 pub negative : (bits : ℕ) (z : ℤ) → SFits w32 z → ltZ (toZ w32 (ofZ w32 z)) (pos 0) ≡ true → false ≡ stepIn bits z
 negative bits z f h = go z (rw (toZ-ofZ f) at h)

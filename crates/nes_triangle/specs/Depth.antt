@@ -1,4 +1,4 @@
--- The depth of a call of the NES triangle: nes_triangle_oscillator.rs, lines 37 to 47. Assumes nothing.
+-- The depth of a call of the NES triangle: nes_triangle_oscillator.rs, lines 37 to 45. Assumes nothing.
 use mathlib.Core.Bool.{Bool, _&&_, cond}
 use Prim.Native.Nat.{ℕ, _-_, _/_, _^_}
 use lib.Dec.{leb, eqb}

@@ -29,17 +29,18 @@ pub record Below (z : ℤ) (m : ℕ) : Type 0 where
   pub is : z ≡ pos n
   pub under : n < m
 
+-- the bits of a call that passed the tests
+pub record BitsIn (bits : ℕ) : Type 0 where
+  pub low : 1 ≤ bits
+  pub high : bits ≤ 16
+
 -- the phase is a binary32 value of at least 0 and below 1, the step one of 2^bits, and the frequency passes its test
 pub record Valid (bits : ℕ) (s : State) : Type 0 where
   pub phase : Under (s .phase) cycle
   pub step : Below (s .step) (2 ^ bits)
   pub frequency : frequencyIn (s .frequency) ≡ true
 
-pub record BitsIn (bits : ℕ) : Type 0 where
-  pub low : 1 ≤ bits
-  pub high : bits ≤ 16
-
--- and the frequency's step lies above 0 and is at most 17/64
+-- what a sample starts from: d is the depth of some bits, the state is valid for them, and the frequency's step lies above 0 and is at most 17/64
 pub record Ready (d : Depth) (s : State) (frequency : Float) : Type 0 where
   pub bits : ℕ
   pub depth : d ≡ depthOf bits

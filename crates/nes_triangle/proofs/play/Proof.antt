@@ -20,7 +20,9 @@ none-requires : tie.Need-none-requires Inv-loop μ-loop
 none-requires c κs = search needs
 
 loop-holds : tie.Need-loop-holds Inv-loop μ-loop
-loop-holds c = let p = c .before .before .before .pre in turning-start _ (p .fit .bits-in) _ _ _ _ (c .none .ensures) p
+loop-holds c =
+    let p = c .before .before .before .pre in
+    turning-start _ (p .fit .bits-in) _ _ _ _ (c .none .ensures) p
 
 next-requires : tie.Need-next-requires Inv-loop μ-loop
 next-requires c κs = search needs
@@ -57,7 +59,9 @@ same-length : tie.Need-same-length Inv-loop μ-loop
 same-length c = c .before .loop .inv .long
 
 returns : tie.Need-returns Inv-loop μ-loop
-returns c = let o = c .before .before .before in turning-end _ (o .before .before .pre .fit .bits-in) _ _ _ _ _ _ _ _ (c .before .loop .inv) (c .loop-test .left)
+returns c =
+    let o = c .before .before .before in
+    turning-end _ (o .before .before .pre .fit .bits-in) _ _ _ _ _ _ _ _ (c .before .loop .inv) (c .loop-test .left)
 
 pub play-spec : {M : Type 1} → statement M
 play-spec =

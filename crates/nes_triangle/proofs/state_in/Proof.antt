@@ -16,7 +16,9 @@ step-in-requires c κs = search needs
 
 returns : tie.Need-returns
 unfolding stateIn
-returns c = let k = c .before .struct-told .given .1 .1 .0 in rw (c .step-in .ensures, c .before .before .frequency-in .ensures, c .before .before .before .phase-in .ensures, toZ-ofZ (record { sfits = k .1 }))
+returns c =
+    let k = c .before .struct-told .given .1 .1 .0 in
+    rw (c .step-in .ensures, c .before .before .frequency-in .ensures, c .before .before .before .phase-in .ensures, toZ-ofZ (record { sfits = k .1 }))
 
 pub state-in-spec : {M : Type 1} → statement M
 state-in-spec =

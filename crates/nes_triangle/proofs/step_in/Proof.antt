@@ -1,11 +1,13 @@
 -- `nes_triangle::step_in` meets its contract: each way of the test is the definition's. Assumes nothing.
+use mir.Syntax.{w32}
+use mir.Val.{toZ, ofZ}
 use Rattle.nes_triangle.proofs.Depths.{not-negative, negative, step-in-is}
 use borrow.Author.Needs.{needs}
 use Rattle.nes_triangle.proofs.step_in.Statement.{statement}
 use Rattle.nes_triangle.proofs.step_in.Tie as tie
 
 unsigned-requires : tie.Need-unsigned-requires
-unsigned-requires c κs = not-negative _ (c .before .fits .step) (c .if1 .left)
+unsigned-requires c κs = not-negative (toZ w32 (ofZ w32 (c .before .args .step))) (c .if1 .left)
 
 tested-bits-requires : tie.Need-tested-bits-requires
 tested-bits-requires c κs = search needs

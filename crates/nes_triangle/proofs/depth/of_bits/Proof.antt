@@ -16,7 +16,9 @@ nearest-u32-to-f32-requires : tie.Need-nearest-u32-to-f32-requires
 nearest-u32-to-f32-requires c κs = search needs
 
 scale-requires : tie.Need-scale-requires
-scale-requires c κs = let t = c .before .before in top-some (t .steps .result) _ (rw (t .steps .ensures) (two-steps _ (t .before .pre .0))) (c .before .top .ensures)
+scale-requires c κs =
+    let t = c .before .before in
+    top-some (t .steps .result) _ (rw (t .steps .ensures) (two-steps _ (t .before .pre .0))) (c .before .top .ensures)
 
 returns : tie.Need-returns
 unfolding depthOf

@@ -11,7 +11,9 @@ whole-part-requires : tie.Need-whole-part-requires
 whole-part-requires c κs = search needs
 
 unsigned-requires : tie.Need-unsigned-requires
-unsigned-requires c κs = let r = c .before .before .before .before .pre in rw (toZ-ofZ (step-fits _ _ _ r)) (ap nonNeg (r .valid .step .is))
+unsigned-requires c κs =
+    let r = c .before .before .before .before .pre in
+    rw (toZ-ofZ (step-fits _ _ _ r)) (ap nonNeg (r .valid .step .is))
 
 wrap-step-requires : tie.Need-wrap-step-requires
 wrap-step-requires c κs = λ h. wrap-enough _ _ _ h

@@ -9,7 +9,7 @@ clamp-requires c κs = search needs
 
 returns : tie.Need-returns
 unfolding gainsOf
-returns c = cc
+returns c = rw (c .before .clamp .ensures)
 
 pub fade-spec : {M : Type 1} → statement M
 fade-spec = tie.close (tie.spec clamp-requires returns)
