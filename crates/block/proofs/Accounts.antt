@@ -143,12 +143,20 @@ module _ {S A : Type 0} (call : S → A → Call S) (used : S → A → List Flo
   chain-refused s law [] = refl
   chain-refused s law (a ∷ calls) = let u = law a in rw (u .state, u .cycles, u .none-used, chain-refused s law calls)
 
--- demand 3, for any chain from any state that is Ok or refused
+-- demand 3 from any state, be it Ok or one that every call refuses
 module _ {S A : Type 0} (call : S → A → Call S) (used : S → A → List Float) (Ok : S → Type 0) (phase : S → Float) (w e : ℕ)
-    (law : (s : S) (a : A) → Ok s → CallLaw Ok phase w e s (used s a) (call s a)) (at : (s : S) → Ok s → (n : ℕ) × At (phase s) n) where
-  pub demand-3 : (s : S) (calls : List A) → Ok s ⊎ ((a : A) → Untouched s (used s a) (call s a))
-      → (let r = chain call used s calls in Accounted w e (phase s) (r .cycles) (phase (r .state)) (r .steps))
-  demand-3 s calls o = ⊎-elim
+    (law : (s : S) (a : A) → Ok s → CallLaw Ok phase w e s (used s a) (call s a)) (at : (s : S) → Ok s → (n : ℕ) × At (phase s) n) (s : S)
+    (start : Ok s ⊎ ((a : A) → Untouched s (used s a) (call s a))) where
+  -- for one call
+  pub call-accounts : (a : A) → Accounted w e (phase s) (call s a .counts .cycles) (phase (call s a .state)) (used s a)
+  call-accounts a = ⊎-elim
+      (λ (o : Ok s). steps-accounted (law s a o .steps))
+      (λ (u : (a : A) → Untouched s (used s a) (call s a)). rw (u a .state, u a .cycles, u a .none-used) (nothing w e (phase s)))
+      start
+
+  -- for any chain of calls
+  pub chain-accounts : (calls : List A) → (let r = chain call used s calls in Accounted w e (phase s) (r .cycles) (phase (r .state)) (r .steps))
+  chain-accounts calls = ⊎-elim
       (λ (o : Ok s). steps-accounted (chain-law call used Ok phase w e law at s calls o .1))
       (λ (u : (a : A) → Untouched s (used s a) (call s a)). rw (chain-refused call used Ok phase w e s u calls) (nothing w e (phase s)))
-      o
+      start

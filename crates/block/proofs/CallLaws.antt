@@ -1,6 +1,7 @@
 -- What one call does, for any oscillator, from the law of one sample: a refusal leaves all as it was, and an answered block is its samples. Assumes nothing.
-use mathlib.Core.Path.{_≡_, refl, sym, _∙_, subst}
-use mathlib.Core.Bool.{Bool, false}
+use mathlib.Core.Path.{_≡_, refl, sym, ap, _∙_, subst}
+use mathlib.Core.Bool.{Bool, false, true≢false}
+use mathlib.Core.Logic.{_⊎_, inl, inr}
 use mathlib.Core.List.{List}
 use Prim.Native.Nat.{ℕ, _≤_}
 use native.Mathlib.Nat.{zero-add}
@@ -18,7 +19,7 @@ use Rattle.block.specs.declared.Found.the-variants.{Outside, Nowhere}
 use Rattle.block.specs.Counting.{noCounts}
 use Rattle.block.specs.Steps.{stepsOf, firstOutside}
 use Rattle.block.specs.Play.{Sample, play}
-use Rattle.block.specs.Calls.{Call, refusal, run}
+use Rattle.block.specs.Calls.{Call, refusal, done, run}
 use Rattle.block.specs.Account.{column, usedBy, Balanced}
 use Rattle.block.proofs.Plays.{Few, few-none, Inside, Keeps}
 use Rattle.block.proofs.Runs.{run-drift, run-done}
@@ -70,3 +71,23 @@ module _ {S : Type 0} (make : S → List Float → Float → Sample S) (rooms : 
       go : (f : Found) → firstOutside rooms (stepsOf (length xs) ps) ≡ f → Balanced (high s) (run make rooms ps s xs .counts) (high (run make rooms ps s xs .state))
       go (Outside i) h = rw (run-drift make rooms ps s xs i h)
       go Nowhere h = rw (run-done make rooms ps s xs h) (block-balance make rooms Ok keeps high one (length xs) (high s) ps xs s noCounts refl paired h o refl)
+
+-- a call that is fit is Drift or is answered: refused, it is as the refusal says; answered, it is its samples
+module _ {S : Type 0} (make : S → List Float → Float → Sample S) (rooms : List Room) (ps : List ParameterInterpolator) (s : S) (xs : List Float) where
+  pub run-refused : (run make rooms ps s xs .number ≡ 0) ⊎ (run make rooms ps s xs ≡ refusal (run make rooms ps s xs .number) (run make rooms ps s xs .index) s xs)
+  run-refused = go (firstOutside rooms (stepsOf (length xs) ps)) refl
+    where
+      go : (f : Found) → firstOutside rooms (stepsOf (length xs) ps) ≡ f → (run make rooms ps s xs .number ≡ 0) ⊎ (run make rooms ps s xs ≡ refusal (run make rooms ps s xs .number) (run make rooms ps s xs .index) s xs)
+      go (Outside i) h = inr (rw (run-drift make rooms ps s xs i h))
+      go Nowhere h = inl (ap (λ (c : Call S). c .number) (run-done make rooms ps s xs h))
+
+  pub run-answered : run make rooms ps s xs .number ≡ 0 → run make rooms ps s xs ≡ done (play make s noCounts (stepsOf (length xs) ps) xs)
+  run-answered = go (firstOutside rooms (stepsOf (length xs) ps)) refl
+    where
+      go : (f : Found) → firstOutside rooms (stepsOf (length xs) ps) ≡ f → run make rooms ps s xs .number ≡ 0 → run make rooms ps s xs ≡ done (play make s noCounts (stepsOf (length xs) ps) xs)
+      go (Outside i) h e = absurd (omega (arith, sym (ap (λ (c : Call S). c .number) (run-drift make rooms ps s xs i h)) ∙ e))
+      go Nowhere h e = run-done make rooms ps s xs h
+
+-- a number that is not 0
+pub not-done : {A : Type 0} (number : ℕ) → eqb number 0 ≡ false → number ≡ 0 → A
+not-done number h e = absurd (true≢false (sym (ap (λ (k : ℕ). eqb k 0) e) ∙ h))

@@ -1,8 +1,8 @@
 -- Demand 3 for the NES triangle: for one sample, for a call and for any chain of calls, whichever bits each of them has. Its phase is the only one.
 -- And the limits of a sample, and which states are valid. Assumes nothing.
-use mathlib.Core.Path.{_≡_, refl, sym, ap, _∙_}
+use mathlib.Core.Path.{_≡_, refl, sym, _∙_}
 use mathlib.Core.Bool.{Bool, true, false, not, cond, true≢false}
-use mathlib.Core.Logic.{_⊎_, inl, inr, ⊎-elim}
+use mathlib.Core.Logic.{_⊎_}
 use mathlib.Core.List.{List, [], _∷_}
 use Prim.Native.Nat.{ℕ, _^_, _≤_, zero-le}
 use borrow.Author.Tests.{lt-ltb}
@@ -17,11 +17,11 @@ use Rattle.floats.proofs.Ranges.{Under}
 use Rattle.block.specs.Ranges.{phaseIn}
 use Rattle.block.specs.Account.{Accounted, chain, usedBy}
 use Rattle.block.specs.Calls.{Call, refusal, run}
-use Rattle.block.proofs.Bools.{cond-both}
+use Rattle.block.proofs.Bools.{cond-both, either-way}
 use Rattle.block.proofs.Plays.{Few, few-none, Inside}
 use Rattle.block.proofs.RangeLaws.{phase-under}
-use Rattle.block.proofs.Accounts.{OneSample, steps-one, steps-accounted, CallLaw, Untouched, demand-3, nothing}
-use Rattle.block.proofs.CallLaws.{few-most, refusal-untouched, refusal-law, run-law, run-few}
+use Rattle.block.proofs.Accounts.{OneSample, steps-one, steps-accounted, CallLaw, Untouched, call-accounts, chain-accounts}
+use Rattle.block.proofs.CallLaws.{few-most, not-done, refusal-untouched, refusal-law, run-law, run-few}
 use Rattle.nes_triangle.specs.declared.State.{State}
 use Rattle.nes_triangle.specs.Depth.{testedBits}
 use Rattle.nes_triangle.specs.Sample.{sampleAt}
@@ -65,7 +65,7 @@ module _ (s : State) (a : Arguments) where
   ran = run (sampleAt (a .bits)) rooms (interpolators s (a .frequency) (length (a .buffer))) s (a .buffer)
 
   -- what holds of each refusal, and of the run where the tests pass, holds of the call
-  by-ways : (P : Call State → Type 0) → ((number : ℕ) → eqb number 0 ≡ false → P (refusal number 0 s (a .buffer)))
+  pub by-ways : (P : Call State → Type 0) → ((number : ℕ) → eqb number 0 ≡ false → P (refusal number 0 s (a .buffer)))
       → (stateIn s (a .bits) ≡ true → parametersIn (a .frequency) (a .bits) ≡ true → P ran) → P (callOf s a)
   unfolding renderOf
   by-ways P refused answered = cond-both P (ltb 4096 (length (a .buffer))) _ _ (refused 1 refl) (go (stateIn s (a .bits)) refl (parametersIn (a .frequency) (a .bits)) refl)
@@ -98,7 +98,7 @@ module _ (s : State) (a : Arguments) where
     -- the state after an answered call is valid for its bits
     pub done-valid : callOf s a .number ≡ 0 → stateIn (callOf s a .state) (a .bits) ≡ true
     done-valid =
-        by-ways (λ (c : Call State). c .number ≡ 0 → stateIn (c .state) (a .bits) ≡ true) (λ number h e. absurd (true≢false (sym (ap (λ (k : ℕ). eqb k 0) e) ∙ h)))
+        by-ways (λ (c : Call State). c .number ≡ 0 → stateIn (c .state) (a .bits) ≡ true) not-done
         (λ h k e. of-valid (a .bits) (ran .state) (bits-of (a .frequency) (a .bits) k) (ran-law h k .ok))
 
   call-law : PhaseKept s → CallLaw PhaseKept (λ (q : State). q .phase) cycle tick s (usedOf s a) (callOf s a)
@@ -115,28 +115,20 @@ module _ (s : State) (a : Arguments) where
       (λ h k. absurd (true≢false (sym h ∙ rw bad)))
 
 -- ---- the theorems
-kept-or-refused : (s : State) → Phase32 s → PhaseKept s ⊎ (phaseIn (s .phase) ≡ false)
-kept-or-refused s f = go (phaseIn (s .phase)) refl
-  where
-    go : (b : Bool) → phaseIn (s .phase) ≡ b → PhaseKept s ⊎ (phaseIn (s .phase) ≡ false)
-    go true h = inl (phase-under f h)
-    go false h = inr h
+-- a state's phase is kept, or every call refuses it
+start : (s : State) → Phase32 s → PhaseKept s ⊎ ((a : Arguments) → Untouched s (usedOf s a) (callOf s a))
+start s f = either-way (phaseIn (s .phase)) (phase-under f) (λ h a. call-untouched s a h)
 
 -- a block: one call from any state
 pub call-accounted : (s : State) (a : Arguments) → Phase32 s → Accounted (2 ^ 149) (2 ^ 125) (s .phase) (callOf s a .counts .cycles) (callOf s a .state .phase) (usedOf s a)
 unfolding tick
-call-accounted s a f = ⊎-elim
-    (λ (v : PhaseKept s). steps-accounted (call-law s a v .steps))
-    (λ (h : phaseIn (s .phase) ≡ false). let u = call-untouched s a h in rw (u .state, u .cycles, u .none-used) (nothing cycle tick (s .phase)))
-    (kept-or-refused s f)
+call-accounted s a f = call-accounts callOf usedOf PhaseKept (λ (q : State). q .phase) cycle tick call-law kept-at s (start s f) a
 
 -- "Chain any answered blocks of one oscillator, each from the state left before": refused and empty ones may stand among them
 pub chain-accounted : (s : State) (calls : List Arguments) → Phase32 s
     → (let r = chain callOf usedOf s calls in Accounted (2 ^ 149) (2 ^ 125) (s .phase) (r .cycles) (r .state .phase) (r .steps))
 unfolding tick
-chain-accounted s calls f =
-    demand-3 callOf usedOf PhaseKept (λ (q : State). q .phase) cycle tick call-law kept-at s calls
-    (⊎-elim (λ (v : PhaseKept s). inl v) (λ (h : phaseIn (s .phase) ≡ false). inr (λ (a : Arguments). call-untouched s a h)) (kept-or-refused s f))
+chain-accounted s calls f = chain-accounts callOf usedOf PhaseKept (λ (q : State). q .phase) cycle tick call-law kept-at s (start s f) calls
 
 -- `new` and `init` are valid for every call's bits
 pub new-valid : (bits : ℕ) → stateIn newState bits ≡ true

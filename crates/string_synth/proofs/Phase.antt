@@ -1,8 +1,8 @@
 -- Demand 3 for the string synth: for one sample, for a call and for any chain of calls. A cycle is 8 units of phase.
 -- And the limits of a sample, the counts that a string never has, and which states are valid. Assumes nothing.
-use mathlib.Core.Path.{_≡_, refl, sym, ap, _∙_}
-use mathlib.Core.Bool.{Bool, true, false, not, true≢false}
-use mathlib.Core.Logic.{_⊎_, inl, inr, ⊎-elim}
+use mathlib.Core.Path.{_≡_, refl, _∙_}
+use mathlib.Core.Bool.{true, false, not}
+use mathlib.Core.Logic.{_⊎_}
 use mathlib.Core.List.{List, [], _∷_}
 use Prim.Native.Nat.{ℕ, _*_, _^_, _≤_, zero-le}
 use native.Mathlib.Nat.{add-zero}
@@ -21,11 +21,11 @@ use Rattle.block.specs.Steps.{stepsOf, firstOutside}
 use Rattle.block.specs.Play.{play}
 use Rattle.block.specs.Account.{Accounted, chain, usedBy}
 use Rattle.block.specs.Calls.{Call, refusal, run}
-use Rattle.block.proofs.Bools.{cond-both}
+use Rattle.block.proofs.Bools.{cond-both, by-test, either-way}
 use Rattle.block.proofs.Plays.{Few, few-none, Inside}
 use Rattle.block.proofs.Runs.{run-drift, run-done}
-use Rattle.block.proofs.Accounts.{OneSample, steps-one, steps-accounted, CallLaw, Untouched, demand-3, nothing}
-use Rattle.block.proofs.CallLaws.{few-most, refusal-untouched, refusal-law, run-law, run-few}
+use Rattle.block.proofs.Accounts.{OneSample, steps-one, steps-accounted, CallLaw, Untouched, call-accounts, chain-accounts}
+use Rattle.block.proofs.CallLaws.{few-most, not-done, refusal-untouched, refusal-law, run-law, run-few}
 use Rattle.string_synth.specs.declared.State.{State}
 use Rattle.string_synth.specs.Sample.{finish, sampleOf, sawsOf, sampleAt}
 use Rattle.string_synth.specs.Block.{newState, initState, gainsIn, stateIn, parametersIn, interpolators, rooms, renderOf, Arguments, callOf, usedOf, Phase32}
@@ -78,7 +78,7 @@ play-neither (step ∷ steps) s c (x ∷ xs) h = play-neither steps _ _ xs (reco
 -- ---- a call
 module _ (s : State) (a : Arguments) where
   -- what holds of each refusal and of the run holds of the call
-  by-ways : (P : Call State → Type 0) → ((number : ℕ) → eqb number 0 ≡ false → P (refusal number 0 s (a .buffer)))
+  pub by-ways : (P : Call State → Type 0) → ((number : ℕ) → eqb number 0 ≡ false → P (refusal number 0 s (a .buffer)))
       → P (run sampleAt rooms (interpolators s (a .frequency) (a .registration) (a .gain) (length (a .buffer))) s (a .buffer)) → P (callOf s a)
   unfolding renderOf
   by-ways P refused ran =
@@ -122,31 +122,23 @@ module _ (s : State) (a : Arguments) where
         (λ number h. refusal-untouched 0 number 0 h s (a .buffer) (length (a .buffer)) _)
 
     pub call-refused : callOf s a .number ≡ 0 → ⊥
-    call-refused = bad-way (λ (c : Call State). c .number ≡ 0 → ⊥) (λ number h e. true≢false (sym (ap (λ (k : ℕ). eqb k 0) e) ∙ h))
+    call-refused = bad-way (λ (c : Call State). c .number ≡ 0 → ⊥) not-done
 
 -- ---- the theorems
-valid-or-refused : (s : State) → Phase32 s → Valid s ⊎ (stateIn s ≡ false)
-valid-or-refused s f = go (stateIn s) refl
-  where
-    go : (b : Bool) → stateIn s ≡ b → Valid s ⊎ (stateIn s ≡ false)
-    go true h = inl (valid-of s f h)
-    go false h = inr h
+-- a state is valid, or every call refuses it
+start : (s : State) → Phase32 s → Valid s ⊎ ((a : Arguments) → Untouched s (usedOf s a) (callOf s a))
+start s f = either-way (stateIn s) (valid-of s f) (λ h a. call-untouched s a h)
 
 -- a block: one call from any state
 pub call-accounted : (s : State) (a : Arguments) → Phase32 s → Accounted (2 ^ 152) (2 ^ 128) (s .phase) (callOf s a .counts .cycles) (callOf s a .state .phase) (usedOf s a)
 unfolding tick
-call-accounted s a f = ⊎-elim
-    (λ (v : Valid s). steps-accounted (call-law s a v .steps))
-    (λ (h : stateIn s ≡ false). let u = call-untouched s a h in rw (u .state, u .cycles, u .none-used) (nothing (8 * cycle) (8 * tick) (s .phase)))
-    (valid-or-refused s f)
+call-accounted s a f = call-accounts callOf usedOf Valid (λ (q : State). q .phase) (8 * cycle) (8 * tick) call-law phase-at s (start s f) a
 
 -- "Chain any answered blocks of one oscillator, each from the state left before": refused and empty ones may stand among them
 pub chain-accounted : (s : State) (calls : List Arguments) → Phase32 s
     → (let r = chain callOf usedOf s calls in Accounted (2 ^ 152) (2 ^ 128) (s .phase) (r .cycles) (r .state .phase) (r .steps))
 unfolding tick
-chain-accounted s calls f =
-    demand-3 callOf usedOf Valid (λ (q : State). q .phase) (8 * cycle) (8 * tick) call-law phase-at s calls
-    (⊎-elim (λ (v : Valid s). inl v) (λ (h : stateIn s ≡ false). inr (λ (a : Arguments). call-untouched s a h)) (valid-or-refused s f))
+chain-accounted s calls f = chain-accounts callOf usedOf Valid (λ (q : State). q .phase) (8 * cycle) (8 * tick) call-law phase-at s (start s f) calls
 
 -- `new` and `init` are valid, and so is the state after an answered call
 pub new-valid : stateIn newState ≡ true
@@ -158,4 +150,4 @@ unfolding stateIn gainsIn le lt neg ofBits
 init-valid = refl
 
 pub done-valid : (s : State) (a : Arguments) → Phase32 s → callOf s a .number ≡ 0 → stateIn (callOf s a .state) ≡ true
-done-valid s a f e = ⊎-elim (λ (v : Valid s). of-valid _ (call-law s a v .ok)) (λ (h : stateIn s ≡ false). absurd (call-refused s a h e)) (valid-or-refused s f)
+done-valid s a f e = by-test (stateIn s) (λ h. of-valid _ (call-law s a (valid-of s f h) .ok)) (λ h. absurd (call-refused s a h e))

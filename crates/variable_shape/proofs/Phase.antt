@@ -1,8 +1,8 @@
 -- Demand 3 for the variable shape: for one sample, for a call and for any chain of calls in which sync is never switched. Its phase is the master's with sync
 -- and the slave's without, whose wraps are the cycles. And the limits of a sample, the balance of the crossings, and which states are valid. Assumes nothing.
-use mathlib.Core.Path.{_≡_, refl, sym, ap, _∙_}
-use mathlib.Core.Bool.{Bool, true, false, not, true≢false}
-use mathlib.Core.Logic.{_⊎_, inl, inr, ⊎-elim}
+use mathlib.Core.Path.{_≡_, refl}
+use mathlib.Core.Bool.{Bool, true, false, not}
+use mathlib.Core.Logic.{_⊎_}
 use mathlib.Core.List.{List, [], _∷_}
 use Prim.Native.Nat.{ℕ, _^_, zero-le}
 use lib.Dec.{eqb, ltb}
@@ -14,10 +14,10 @@ use Rattle.floats.proofs.Ticks.{tick, cycle}
 use Rattle.parameter_interpolator.specs.declared.ParameterInterpolator.{ParameterInterpolator}
 use Rattle.block.specs.Account.{Accounted, chain, usedBy, Balanced}
 use Rattle.block.specs.Calls.{Call, refusal, run}
-use Rattle.block.proofs.Bools.{cond-both}
+use Rattle.block.proofs.Bools.{cond-both, by-test, either-way}
 use Rattle.block.proofs.Plays.{Few, few-none, Inside}
-use Rattle.block.proofs.Accounts.{OneSample, steps-one, steps-accounted, CallLaw, Untouched, demand-3, nothing}
-use Rattle.block.proofs.CallLaws.{few-most, refusal-untouched, refusal-law, run-law, run-few, run-balance}
+use Rattle.block.proofs.Accounts.{OneSample, steps-one, steps-accounted, CallLaw, Untouched, call-accounts, chain-accounts}
+use Rattle.block.proofs.CallLaws.{few-most, not-done, refusal-untouched, refusal-law, run-law, run-few, run-balance}
 use Rattle.variable_shape.specs.declared.State.{State}
 use Rattle.variable_shape.specs.Sample.{stepsAt, sampleAt}
 use Rattle.variable_shape.specs.Block.{newState, initState, stateIn, parametersIn, stepping, rooms, renderOf, countedPhase, countedStep, Arguments, callOf, movingOf, usedOf, Phases32}
@@ -58,7 +58,7 @@ module _ (sync : Bool) (s : State) (a : Arguments) where
   steps = stepping (a .phase-output) (movingOf s a)
 
   -- what holds of each refusal and of the run holds of the call
-  by-ways : (P : Call State → Type 0) → ((number : ℕ) → eqb number 0 ≡ false → P (refusal number 0 s (a .buffer)))
+  pub by-ways : (P : Call State → Type 0) → ((number : ℕ) → eqb number 0 ≡ false → P (refusal number 0 s (a .buffer)))
       → P (run (sampleAt sync (a .phase-output)) (rooms (a .phase-output)) steps s (a .buffer)) → P (callOf sync s a)
   unfolding renderOf
   by-ways P refused ran =
@@ -96,36 +96,28 @@ module _ (sync : Bool) (s : State) (a : Arguments) where
         (λ number h. refusal-untouched (countedStep sync) number 0 h s (a .buffer) (length (a .buffer)) steps)
 
     pub call-refused : callOf sync s a .number ≡ 0 → ⊥
-    call-refused = bad-way (λ (c : Call State). c .number ≡ 0 → ⊥) (λ number h e. true≢false (sym (ap (λ (k : ℕ). eqb k 0) e) ∙ h))
+    call-refused = bad-way (λ (c : Call State). c .number ≡ 0 → ⊥) not-done
 
 -- ---- the theorems
-valid-or-refused : (s : State) → Phases32 s → Valid s ⊎ (stateIn s ≡ false)
-valid-or-refused s f = go (stateIn s) refl
-  where
-    go : (b : Bool) → stateIn s ≡ b → Valid s ⊎ (stateIn s ≡ false)
-    go true h = inl (valid-of s h (f .0) (f .1))
-    go false h = inr h
-
 module _ (sync : Bool) (s : State) (f : Phases32 s) where
+  -- a state is valid, or every call refuses it
+  start : Valid s ⊎ ((a : Arguments) → Untouched s (usedOf sync s a) (callOf sync s a))
+  start = either-way (stateIn s) (λ h. valid-of s h (f .0) (f .1)) (λ h a. call-untouched sync s a h)
+
   -- a block: one call from any state
   pub call-accounted : (a : Arguments) → (let c = callOf sync s a in Accounted (2 ^ 149) (2 ^ 125) (countedPhase sync s) (c .counts .cycles) (countedPhase sync (c .state)) (usedOf sync s a))
   unfolding tick
-  call-accounted a = ⊎-elim
-      (λ (v : Valid s). steps-accounted (call-law sync s a v .steps))
-      (λ (h : stateIn s ≡ false). let u = call-untouched sync s a h in rw (u .state, u .cycles, u .none-used) (nothing cycle tick (countedPhase sync s)))
-      (valid-or-refused s f)
+  call-accounted a = call-accounts (callOf sync) (usedOf sync) Valid (countedPhase sync) cycle tick (call-law sync) (phase-at sync) s start a
 
   -- "Chain any answered blocks of one oscillator, each from the state left before": refused and empty ones may stand among them
   pub chain-accounted : (calls : List Arguments)
       → (let r = chain (callOf sync) (usedOf sync) s calls in Accounted (2 ^ 149) (2 ^ 125) (countedPhase sync s) (r .cycles) (countedPhase sync (r .state)) (r .steps))
   unfolding tick
-  chain-accounted calls =
-      demand-3 (callOf sync) (usedOf sync) Valid (countedPhase sync) cycle tick (call-law sync) (phase-at sync) s calls
-      (⊎-elim (λ (v : Valid s). inl v) (λ (h : stateIn s ≡ false). inr (λ (a : Arguments). call-untouched sync s a h)) (valid-or-refused s f))
+  chain-accounted calls = chain-accounts (callOf sync) (usedOf sync) Valid (countedPhase sync) cycle tick (call-law sync) (phase-at sync) s start calls
 
   -- the state after an answered call is valid
   pub done-valid : (a : Arguments) → callOf sync s a .number ≡ 0 → stateIn (callOf sync s a .state) ≡ true
-  done-valid a e = ⊎-elim (λ (v : Valid s). call-law sync s a v .ok .ranges) (λ (h : stateIn s ≡ false). absurd (call-refused sync s a h e)) (valid-or-refused s f)
+  done-valid a e = by-test (stateIn s) (λ h. call-law sync s a (valid-of s h (f .0) (f .1)) .ok .ranges) (λ h. absurd (call-refused sync s a h e))
 
 -- and so are `new` and `init`
 pub new-valid : stateIn newState ≡ true

@@ -1,0 +1,47 @@
+-- Demand 3: "Chain any answered blocks of one oscillator, each from the state left before, sync never switched and no phase set by hand: the cycles counted, plus the
+-- last phase, less the first, differ from the exact sum of the frequency steps used by at most 2^-24 cycle per sample."
+-- A chain is a list of calls with any arguments, refused and empty ones among them. `Accounted` reads each float as its exact value, in units of 2^-149.
+-- A cycle is 2^149 units and 2^-24 of it is 2^125; the string's cycle is 8 units of phase, 2^152, and 2^-24 of it is 2^128. Assumes nothing.
+use mathlib.Core.Bool.{Bool}
+use mathlib.Core.List.{List}
+use Prim.Native.Nat.{_^_}
+use Rattle.block.specs.Account.{Accounted, chain}
+use Rattle.super_square.specs.declared.State as SuperSquareState
+use Rattle.super_square.specs.Block as SuperSquare
+use Rattle.super_square.proofs.Phase as SuperSquarePhase
+use Rattle.variable_shape.specs.declared.State as ShapeState
+use Rattle.variable_shape.specs.Block as Shape
+use Rattle.variable_shape.proofs.Phase as ShapePhase
+use Rattle.variable_saw.specs.declared.State as SawState
+use Rattle.variable_saw.specs.Block as Saw
+use Rattle.variable_saw.proofs.Phase as SawPhase
+use Rattle.nes_triangle.specs.declared.State as NesState
+use Rattle.nes_triangle.specs.Block as Nes
+use Rattle.nes_triangle.proofs.Phase as NesPhase
+use Rattle.string_synth.specs.declared.State as StringState
+use Rattle.string_synth.specs.Block as String
+use Rattle.string_synth.proofs.Phase as StringPhase
+
+-- the super square's phase is the master's
+pub super-square : (s : SuperSquareState.State) (calls : List SuperSquare.Arguments) → SuperSquare.Phases32 s
+    → (let r = chain SuperSquare.callOf SuperSquare.usedOf s calls in Accounted (2 ^ 149) (2 ^ 125) (s .«master_phase») (r .cycles) (r .state .«master_phase») (r .steps))
+super-square = SuperSquarePhase.chain-accounted
+
+-- the variable shape's is the master's with sync and the slave's without; `sync` is one for the whole chain
+pub variable-shape : (sync : Bool) (s : ShapeState.State) → Shape.Phases32 s → (calls : List Shape.Arguments)
+    → (let r = chain (Shape.callOf sync) (Shape.usedOf sync) s calls in
+    Accounted (2 ^ 149) (2 ^ 125) (Shape.countedPhase sync s) (r .cycles) (Shape.countedPhase sync (r .state)) (r .steps))
+variable-shape = ShapePhase.chain-accounted
+
+-- the other three have one phase
+pub variable-saw : (s : SawState.State) (calls : List Saw.Arguments) → Saw.Phase32 s
+    → (let r = chain Saw.callOf Saw.usedOf s calls in Accounted (2 ^ 149) (2 ^ 125) (s .phase) (r .cycles) (r .state .phase) (r .steps))
+variable-saw = SawPhase.chain-accounted
+
+pub nes-triangle : (s : NesState.State) (calls : List Nes.Arguments) → Nes.Phase32 s
+    → (let r = chain Nes.callOf Nes.usedOf s calls in Accounted (2 ^ 149) (2 ^ 125) (s .phase) (r .cycles) (r .state .phase) (r .steps))
+nes-triangle = NesPhase.chain-accounted
+
+pub string-synth : (s : StringState.State) (calls : List String.Arguments) → String.Phase32 s
+    → (let r = chain String.callOf String.usedOf s calls in Accounted (2 ^ 152) (2 ^ 128) (s .phase) (r .cycles) (r .state .phase) (r .steps))
+string-synth = StringPhase.chain-accounted

@@ -1,0 +1,2 @@
+-- The demands of the request, one file each.
+pub mod Demand3
