@@ -4,12 +4,14 @@
 mod calls;
 mod difference;
 mod leaves;
+mod lists;
 mod random;
 
 use calls::record::{Record, RECORD_BYTES};
 use calls::stats::Stats;
 use calls::Kinds;
 use std::io::{self, BufWriter, Read, Write};
+use std::path::Path;
 use std::{env, fs, process};
 
 // The ported Rust as build.rs lays it out: the modules `oscillator` and `utils`.
@@ -17,7 +19,8 @@ include!(concat!(env!("OUT_DIR"), "/source.rs"));
 
 const USAGE: &str = "usage: compare make-leaves COUNT SEED | expect-leaves | \
     make-calls COUNT SEED [--kinds LIST] | expect-calls [--kinds LIST] [--stats] | \
-    first-difference leaves|calls INPUT EXPECTED GOT";
+    make-lists COUNT SEED DIR | expect-list | expect-lists DIR [--stats] | \
+    first-difference leaves|calls INPUT EXPECTED GOT | first-difference lists DIR";
 
 fn main() {
     let words: Vec<String> = env::args().skip(1).collect();
@@ -45,6 +48,17 @@ fn run(words: &[&str]) -> Result<(), String> {
         }
         ["first-difference", "calls", input, expected, got] => {
             first_difference(RECORD_BYTES, [input, expected, got])
+        }
+        ["make-lists", count, seed, folder] => {
+            lists::folder::make(number(count)? as usize, number(seed)?, Path::new(folder))
+        }
+        ["expect-list"] => expect_list(),
+        ["expect-lists", folder] => lists::folder::expect(Path::new(folder)).map(|_| ()),
+        ["expect-lists", folder, "--stats"] => {
+            lists::folder::expect(Path::new(folder)).map(|tried| eprint!("{tried}"))
+        }
+        ["first-difference", "lists", folder] => {
+            tell(lists::folder::first_difference(Path::new(folder))?)
         }
         _ => Err(USAGE.to_string()),
     }
@@ -113,8 +127,15 @@ fn expect_calls(kinds: &Kinds, with_stats: bool) -> Result<(), String> {
 fn first_difference(record_bytes: usize, names: [&str; 3]) -> Result<(), String> {
     let read = |name: &str| fs::read(name).map_err(|e| format!("cannot read {name}: {e}"));
     let [input, expected, got] = names;
-    match difference::first(&read(input)?, record_bytes, &read(expected)?, &read(got)?) {
-        Ok(count) => println!("{count} records agree"),
+    let (input, expected, got) = (read(input)?, read(expected)?, read(got)?);
+    let found = difference::first(&input, record_bytes, &expected, &got);
+    tell(found.map(|count| format!("{count} records agree")))
+}
+
+/// Says that all agree, or the first difference, which ends the program with status 1.
+fn tell(found: Result<String, String>) -> Result<(), String> {
+    match found {
+        Ok(agreed) => println!("{agreed}"),
         Err(told) => {
             // A difference is what was asked for, and no error of this program: it is told alone.
             println!("{told}");
@@ -124,12 +145,23 @@ fn first_difference(record_bytes: usize, names: [&str; 3]) -> Result<(), String>
     Ok(())
 }
 
-fn read_records(record_bytes: usize) -> Result<Vec<u8>, String> {
+fn expect_list() -> Result<(), String> {
+    let text = lists::expect::text(&read_input()?, &mut lists::Tried::default())?;
+    let mut out = io::stdout().lock();
+    out.write_all(text.as_bytes()).map_err(cannot_write)
+}
+
+fn read_input() -> Result<Vec<u8>, String> {
     let mut input = Vec::new();
     io::stdin()
         .lock()
         .read_to_end(&mut input)
         .map_err(|e| format!("cannot read standard input: {e}"))?;
+    Ok(input)
+}
+
+fn read_records(record_bytes: usize) -> Result<Vec<u8>, String> {
+    let input = read_input()?;
     if !input.len().is_multiple_of(record_bytes) {
         return Err(format!(
             "the input has {} bytes, no multiple of a record's {record_bytes}",

@@ -25,15 +25,23 @@ pub fn expect(
         return Ok(PASSED_OVER.to_string());
     }
     let mut samples = buffer(length);
-    let outcome = model::call(record, &mut samples).ok_or("a kind without an oscillator")?;
-    if outcome.answer == 0 {
-        let mut original_samples = buffer(length);
-        let original_words = original::render(record, &mut original_samples);
-        hold(&outcome, &samples, &original_words, &original_samples)
-            .map_err(|difference| format!("record {number}: MISMATCH in {difference}"))?;
-    }
+    let outcome =
+        held_call(record, &mut samples).map_err(|told| format!("record {number}: {told}"))?;
     stats.add(record.kind(), &samples, &outcome);
     Ok(line(&outcome, &samples))
+}
+
+/// Makes a record's call on a buffer, and again with the ported Rust where it is answered; an error
+/// where the two differ.
+pub fn held_call(record: &Record, samples: &mut [f32]) -> Result<Outcome, String> {
+    let mut original_samples = samples.to_vec();
+    let outcome = model::call(record, samples).ok_or("a kind without an oscillator")?;
+    if outcome.answer == 0 {
+        let original_words = original::render(record, &mut original_samples);
+        hold(&outcome, samples, &original_words, &original_samples)
+            .map_err(|difference| format!("MISMATCH in {difference}"))?;
+    }
+    Ok(outcome)
 }
 
 /// The first word or sample in which the two implementations differ; a NaN agrees with a NaN.

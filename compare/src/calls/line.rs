@@ -27,13 +27,18 @@ pub fn checksum(samples: &[f32]) -> u32 {
     samples.iter().fold(0, step) as u32
 }
 
-/// Answer, index, counts, state words, checksum. Refused state words are printed as given.
-pub fn line(outcome: &Outcome, samples: &[f32]) -> String {
+/// Answer, index, cycles, rises, falls, cuts.
+pub fn answer_and_counts(outcome: &Outcome) -> String {
     let counts = outcome.counts;
-    let mut line = format!(
+    format!(
         "{} {} {} {} {} {}",
         outcome.answer, outcome.index, counts.cycles, counts.rises, counts.falls, counts.cuts
-    );
+    )
+}
+
+/// Answer, index, counts, state words, checksum. Refused state words are printed as given.
+pub fn line(outcome: &Outcome, samples: &[f32]) -> String {
+    let mut line = answer_and_counts(outcome);
     for &word in &outcome.words {
         let word = match outcome.answer {
             0 => canonical(word),

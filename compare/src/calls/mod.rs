@@ -11,6 +11,8 @@ pub mod record;
 pub mod stats;
 
 pub use kinds::Kinds;
+pub use line::answer_and_counts;
+pub use original::starting_words;
 
 #[cfg(test)]
 mod tests;

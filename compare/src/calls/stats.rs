@@ -33,19 +33,16 @@ impl Stats {
         }
     }
 
-    fn records(&self) -> usize {
+    pub fn records(&self) -> usize {
         self.passed_over + self.kinds.iter().map(KindStats::records).sum::<usize>()
     }
-}
 
-impl KindStats {
-    fn records(&self) -> usize {
-        self.answers.iter().sum()
+    pub fn samples(&self) -> usize {
+        self.kinds.iter().map(|stats| stats.samples).sum()
     }
-}
 
-impl fmt::Display for Stats {
-    fn fmt(&self, to: &mut fmt::Formatter) -> fmt::Result {
+    /// A line for each kind that came up.
+    pub fn write_kinds(&self, to: &mut fmt::Formatter) -> fmt::Result {
         for (kind, stats) in self
             .kinds
             .iter()
@@ -62,8 +59,21 @@ impl fmt::Display for Stats {
                 stats.samples, stats.double_rises, stats.nans
             )?;
         }
-        let samples: usize = self.kinds.iter().map(|stats| stats.samples).sum();
+        Ok(())
+    }
+}
+
+impl KindStats {
+    fn records(&self) -> usize {
+        self.answers.iter().sum()
+    }
+}
+
+impl fmt::Display for Stats {
+    fn fmt(&self, to: &mut fmt::Formatter) -> fmt::Result {
+        self.write_kinds(to)?;
+        let (records, samples) = (self.records(), self.samples());
         writeln!(to, "passed over (-): {} records", self.passed_over)?;
-        writeln!(to, "total: {} records, {samples} samples", self.records())
+        writeln!(to, "total: {records} records, {samples} samples")
     }
 }

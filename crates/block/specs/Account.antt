@@ -20,8 +20,8 @@ unfoldable pub sumUnits : List Float → ℤ
 sumUnits [] = pos 0
 sumUnits (x ∷ xs) = units x +ℤ sumUnits xs
 
--- "the cycles counted, plus the last phase, less the first, differ from the exact sum of the frequency steps used by at most" e for each step;
--- a cycle is w units
+-- "the cycles counted, plus the last phase, less the first, differ from the exact sum of the frequency steps used by at most" e units for each step;
+-- a cycle is w units. They are 2^149 and 2^125, which is 2^-24 cycle; for the string, whose cycle is 8.0 of phase, 2^152 and 2^128
 abbrev pub Accounted : ℕ → ℕ → Float → ℕ → Float → List Float → Type 0
 Accounted w e first cycles last steps = natAbs ((pos (cycles * w) +ℤ units last) -ℤ (units first +ℤ sumUnits steps)) ≤ length steps * e
 

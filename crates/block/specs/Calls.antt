@@ -1,4 +1,4 @@
--- What a call leaves, for any oscillator, in this paper's numbers. Assumes nothing.
+-- What a call leaves, for any oscillator, in 01's numbers. Assumes nothing.
 use mathlib.Core.List.{List}
 use Prim.Native.Nat.{ℕ}
 use lib.ListN.{length}

@@ -6,7 +6,7 @@ use Rattle.block.specs.declared.Room.{Room}
 use Rattle.block.specs.declared.Room.the-variants.{Unused, Frequency, StringFrequency, PulseWidth, Waveshape, Sixteen}
 use Rattle.block.specs.Ranges.{waveshapeIn, sixteenIn}
 
--- a frequency lies above 0 and is at most 17/64, a string's at most 17/32; a pulse width lies strictly between 0 and 1;
+-- an unused place of the walk, which always has five, takes any step; a frequency lies above 0 and is at most 17/64, a string's at most 17/32; a pulse width lies strictly between 0 and 1;
 -- the others have the state's range: a waveshape -1 to 2, phase modulation and a saw gain -16 to 16
 abbrev pub inRoom : Room → Float → Bool
 inRoom Unused x = true

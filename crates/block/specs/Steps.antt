@@ -31,7 +31,7 @@ allIn [] steps = true
 allIn (r ∷ rs) [] = true
 allIn (r ∷ rs) (x ∷ steps) = inRoom r x && allIn rs steps
 
--- i more
+-- the same, found one sample later
 abbrev pub later : Found → Found
 later Nowhere = Nowhere
 later (Outside i) = Outside (suc i)

@@ -1,4 +1,4 @@
--- A hard sync reset, which super_square_oscillator.rs (lines 73 to 93) and variable_shape_oscillator.rs (lines 113 to 139) share: the master
+-- A hard sync reset, which super_square_oscillator.rs (lines 73 to 93) and variable_shape_oscillator.rs (lines 114 to 138) share: the master
 -- has wrapped `time` samples ago, and the slave starts anew. Assumes nothing.
 use mathlib.Core.Bool.{Bool, not, _&&_, _||_, cond}
 use lib.Ieee.{Float, le}

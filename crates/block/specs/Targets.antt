@@ -4,7 +4,8 @@ use lib.Ieee.{Float, le}
 use Rattle.floats.specs.F32.{_⊖_, _⊗_, half32, one32, two32, maxFrequency}
 use Rattle.floats.specs.Helpers.{clampOf}
 
--- a frequency is at most MAX_FREQUENCY: super_square_oscillator.rs, lines 44 to 50
+-- a frequency is at most MAX_FREQUENCY: super_square_oscillator.rs, lines 46 to 52, variable_shape_oscillator.rs, lines 68 to 73,
+-- variable_saw_oscillator.rs, lines 45 to 47
 abbrev pub clipped : Float → Float
 clipped frequency = cond (le maxFrequency frequency) maxFrequency frequency
 

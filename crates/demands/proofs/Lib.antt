@@ -1,2 +1,4 @@
 -- The demands of the request, one file each.
+pub mod Demand1
+pub mod Demand2
 pub mod Demand3

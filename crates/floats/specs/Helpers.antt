@@ -7,6 +7,7 @@ use lib.Ieee.{Float, nan, inf, fin, lt, ne}
 abbrev pub minOf : Float → Float → Float
 minOf x y = cond (lt x y || ne y y) x y
 
+-- x where it is above y or y is a NaN, else y
 abbrev pub maxOf : Float → Float → Float
 maxOf x y = cond (lt y x || ne y y) x y
 

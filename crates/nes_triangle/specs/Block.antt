@@ -57,7 +57,7 @@ renderOf s frequency bits xs =
     (cond (not (parametersIn frequency bits)) (refusal 4 0 s xs)
     (run (sampleAt bits) rooms (interpolators s frequency (length xs)) s xs)))
 
--- what a call returned and left in the buffer, in this paper's numbers
+-- what a call returned and left in the buffer, in 01's numbers
 abbrev pub left : Rendered → List Float → Call State
 left r xs = record { number = numberOf (r .answer); index = indexOf (r .answer); state = r .state; counts = r .counts; samples = xs }
 

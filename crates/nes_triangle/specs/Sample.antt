@@ -1,5 +1,6 @@
 -- One sample of the NES triangle: nes_triangle_oscillator.rs, lines 54 to 137, in its order. Steps are whole numbers from 0 up: the source's
--- `i32` is never negative there, since a call tests the state's step. Assumes nothing.
+-- `i32` is never negative there, since a call tests the state's step; and no difference of them goes below 0: a wrap has come to the number of steps, and a step is at
+-- most the top. Assumes nothing.
 use mathlib.Core.Bool.{Bool, not, _&&_, _||_, cond}
 use mathlib.Core.List.{List}
 use Prim.Native.Nat.{ℕ, _-_}

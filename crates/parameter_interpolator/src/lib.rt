@@ -1,7 +1,7 @@
 // Linear interpolation of parameters in rendering loops: the source's utils/parameter_interpolator.rs. Where the source keeps
 // a reference to the parameter and writes back as the interpolator is dropped, the value goes in and comes out by value.
 ghost use mathlib.Core.Path.{_≡_};
-ghost use Rattle.parameter_interpolator.specs.Interpolator.{newInterpolator, nextInterpolator};
+ghost use Rattle.parameter_interpolator.specs.Interpolator.{newInterpolator, nextInterpolator, writtenBack};
 
 pub struct ParameterInterpolator {
     pub value: f32,
@@ -31,7 +31,7 @@ impl ParameterInterpolator {
 
     // What the source's drop stores: the value of the last step.
     pub fn write_back(self) -> f32
-        ensures { λ r. ⌜ r ≡ self .value ⌝ }
+        ensures { λ r. ⌜ r ≡ writtenBack self ⌝ }
     {
         self.value
     }

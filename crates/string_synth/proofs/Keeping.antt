@@ -37,6 +37,10 @@ pub record Law (a b : ℕ) (e : Reached) : Type 0 where
   pub below : e .segment < 8
   pub rises : e .rises ≤ 1
 
+wrapped-below : (k : ℕ) (o : Bool) → k ≤ 8 → eqb k 8 ≡ o → cond o (k - 8) k < 8
+wrapped-below k true m e = omega (arith, eqb-true k 8 e)
+wrapped-below k false m e = omega (arith, eqb-false k 8 e)
+
 module _ (s : State) (saws : Saws) (h : Ready s (saws .frequency)) where
   abbrev reached : Float
   reached = s .phase ⊕ saws .frequency
@@ -54,10 +58,6 @@ module _ (s : State) (saws : Saws) (h : Ready s (saws .frequency)) where
       let k : wholePart reached ≡ h .valid .k = eqb-true (wholePart reached) (h .valid .k) (rw (h .valid .segment) at l) in
       let under : wholePart reached < 8 = omega (arith, k, h .valid .below) in
       record { phase = turn-stays turn-8 sum (leb-false (8 * cycle) (sum .n) (sym (whole .eight) ∙ ne-eqb (wholePart reached) 8 (λ e. omega (arith, under, e)))); below = under; rises = omega arith }
-
-  wrapped-below : (k : ℕ) (o : Bool) → k ≤ 8 → eqb k 8 ≡ o → cond o (k - 8) k < 8
-  wrapped-below k true m e = omega (arith, eqb-true k 8 e)
-  wrapped-below k false m e = omega (arith, eqb-false k 8 e)
 
   cross-law : Law (h .valid .phase .n) (h .step .n) (crossed s saws reached (wholePart reached))
   cross-law =

@@ -11,7 +11,7 @@ use lib.Ieee.{Float, nan}
 use Rattle.floats.specs.F32.{_⊕_, _⊖_, _⊗_, two32, eight32}
 use Rattle.block.specs.Ranges.{unitIn}
 use Rattle.string_synth.specs.declared.targets.Octave.{Octave}
-use Rattle.string_synth.specs.Targets.{lowered, placedAt, targetsOf}
+use Rattle.string_synth.specs.Targets.{lowered, placedAt, gainBetween, targetsOf}
 use Rattle.string_synth.specs.Block.{registrationIn}
 
 -- the first i entries are tested, and what is left is the test of the rest
@@ -43,15 +43,10 @@ module _ (xs : List Float) (inside : Bool) (i : ℕ) (t : Tested xs inside i) wh
   }
 
 -- the targets, from the parts
-pub targets-is : (frequency : Float) (unshifted : List Float) (gain : Float) (o : Octave) (r0 r1 r2 r3 r4 r5 r6 : Float) → o ≡ lowered (frequency ⊗ eight32)
+pub targets-is : (frequency : Float) (unshifted : List Float) (gain : Float) (o : Octave) (r0 r1 r2 r3 r4 r5 r6 g4 g2 : Float) → o ≡ lowered (frequency ⊗ eight32)
     → r0 ≡ placedAt unshifted (o .shift) 0 → r1 ≡ placedAt unshifted (o .shift) 1 → r2 ≡ placedAt unshifted (o .shift) 2 → r3 ≡ placedAt unshifted (o .shift) 3
     → r4 ≡ placedAt unshifted (o .shift) 4 → r5 ≡ placedAt unshifted (o .shift) 5 → r6 ≡ placedAt unshifted (o .shift) 6
-    → record {
-      frequency = o .frequency;
-      «saw_8_gain» = (r0 ⊕ two32 ⊗ r1) ⊗ gain;
-      «saw_4_gain» = (r2 ⊖ r1 ⊕ two32 ⊗ r3) ⊗ gain;
-      «saw_2_gain» = (r4 ⊖ r3 ⊕ two32 ⊗ r5) ⊗ gain;
-      «saw_1_gain» = (r6 ⊖ r5) ⊗ gain;
-    } ≡ targetsOf frequency unshifted gain
+    → g4 ≡ gainBetween r2 r1 r3 gain → g2 ≡ gainBetween r4 r3 r5 gain
+    → record { frequency = o .frequency; «saw_8_gain» = (r0 ⊕ two32 ⊗ r1) ⊗ gain; «saw_4_gain» = g4; «saw_2_gain» = g2; «saw_1_gain» = (r6 ⊖ r5) ⊗ gain } ≡ targetsOf frequency unshifted gain
 unfolding targetsOf
-targets-is frequency unshifted gain o r0 r1 r2 r3 r4 r5 r6 at-o at-0 at-1 at-2 at-3 at-4 at-5 at-6 = rw (at-0, at-1, at-2, at-3, at-4, at-5, at-6, at-o)
+targets-is frequency unshifted gain o r0 r1 r2 r3 r4 r5 r6 g4 g2 at-o at-0 at-1 at-2 at-3 at-4 at-5 at-6 at-g4 at-g2 = rw (at-g4, at-g2, at-0, at-1, at-2, at-3, at-4, at-5, at-6, at-o)

@@ -57,10 +57,13 @@ even-times {x} {n} b p =
     let e = at-even p in
     record { q = e .q; j = e .j + b; small = e .small; is = ap (λ (k : ℕ). k * 2 ^ b) (e .is) ∙ mul-assoc (e .q) (2 ^ e .j) (2 ^ b) ∙ ap (λ (k : ℕ). e .q * k) (sym (pow-add 2 (e .j) b)) }
 
--- up to 8.0, times 8
-small : (n k : ℕ) → n ≤ 1 * cycle → k ≤ n * 8 → k < huge
+-- up to 8.0
+small : (n k : ℕ) → n ≤ cycle → k ≤ n * 8 → k < huge
 unfolding tick
 small n k h l = lt-of-le-of-lt l (lt-of-le-of-lt (mul-le-mul-right 8 h) (lit< tt))
+
+low-enough : {x : Float} {m : ℕ} → At x m → lt half32 x ≡ false → le x half32 ≡ true
+low-enough q h = passes-le q half-at (failed-lt half-at q h)
 
 -- a frequency of n units, at most 1.0, and its octaves
 module _ (f : Float) (n : ℕ) (p : At f n) (top : n ≤ cycle) where
@@ -68,19 +71,19 @@ module _ (f : Float) (n : ℕ) (p : At f n) (top : n ≤ cycle) where
   x8 = f ⊗ eight32
 
   at-8 : At x8 (n * 8)
-  at-8 = mul-pow 3 p eight (small n (n * 8) (omega arith) (omega arith))
+  at-8 = mul-pow 3 p eight (small n (n * 8) top (omega arith))
     where
       eight : At eight32 (2 ^ 3 * 2 ^ 149)
       eight = unfold tick in eight-at
 
   at-4 : At (x8 ⊗ half32) (n * 4)
-  at-4 = halve (even-times 2 p) (small n (n * 4) (omega arith) (omega arith)) (subst (At x8) (omega arith) at-8)
+  at-4 = halve (even-times 2 p) (small n (n * 4) top (omega arith)) (subst (At x8) (omega arith) at-8)
 
   at-2 : At (x8 ⊗ half32 ⊗ half32) (n * 2)
-  at-2 = halve (even-times 1 p) (small n (n * 2) (omega arith) (omega arith)) (subst (At (x8 ⊗ half32)) (omega arith) at-4)
+  at-2 = halve (even-times 1 p) (small n (n * 2) top (omega arith)) (subst (At (x8 ⊗ half32)) (omega arith) at-4)
 
   at-1 : At (x8 ⊗ half32 ⊗ half32 ⊗ half32) n
-  at-1 = halve (at-even p) (small n n (omega arith) (omega arith)) (subst (At (x8 ⊗ half32 ⊗ half32)) (omega arith) at-2)
+  at-1 = halve (at-even p) (small n n top (omega arith)) (subst (At (x8 ⊗ half32 ⊗ half32)) (omega arith) at-2)
 
   -- the loop ends at r, by its own test, however many turns it may make
   pub record Leaves : Type 0 where
@@ -88,9 +91,6 @@ module _ (f : Float) (n : ℕ) (p : At f n) (top : n ≤ cycle) where
     pub same : (j : ℕ) → halved (suc (suc (suc j))) (octave x8 0) ≡ r
     pub most : r .shift ≤ 6
     pub low : le (r .frequency) half32 ≡ true
-
-  stop : {x : Float} {m : ℕ} → At x m → lt half32 x ≡ false → le x half32 ≡ true
-  stop q h = passes-le q half-at (failed-lt half-at q h)
 
   pub leaves : n ≤ 8388608 * tick → Leaves
   leaves l = none (lt half32 x8) refl
@@ -106,16 +106,16 @@ module _ (f : Float) (n : ℕ) (p : At f n) (top : n ≤ cycle) where
         r = octave (x8 ⊗ half32 ⊗ half32) 4;
         same = λ j. turns (suc (suc j)) (octave x8 0) h ∙ turns (suc j) (octave (x8 ⊗ half32) 2) i ∙ stops (suc j) (octave (x8 ⊗ half32 ⊗ half32) 4) k;
         most = omega arith;
-        low = stop at-2 k;
+        low = low-enough at-2 k;
       }
 
       one : lt half32 x8 ≡ true → (b : Bool) → lt half32 (x8 ⊗ half32) ≡ b → Leaves
       one h true i = two h i (lt half32 (x8 ⊗ half32 ⊗ half32)) refl
-      one h false i = record { r = octave (x8 ⊗ half32) 2; same = λ j. turns (suc (suc j)) (octave x8 0) h ∙ stops (suc (suc j)) (octave (x8 ⊗ half32) 2) i; most = omega arith; low = stop at-4 i }
+      one h false i = record { r = octave (x8 ⊗ half32) 2; same = λ j. turns (suc (suc j)) (octave x8 0) h ∙ stops (suc (suc j)) (octave (x8 ⊗ half32) 2) i; most = omega arith; low = low-enough at-4 i }
 
       none : (b : Bool) → lt half32 x8 ≡ b → Leaves
       none true h = one h (lt half32 (x8 ⊗ half32)) refl
-      none false h = record { r = octave x8 0; same = λ j. stops (suc (suc (suc j))) (octave x8 0) h; most = omega arith; low = stop at-8 h }
+      none false h = record { r = octave x8 0; same = λ j. stops (suc (suc (suc j))) (octave x8 0) h; most = omega arith; low = low-enough at-8 h }
 
   pub eight : 8388608 * tick < n → shiftOf f ≡ 8
   unfolding halved

@@ -1,4 +1,4 @@
--- A whole call of the string synth: string_synth_oscillator.rs, lines 36 to 151, with 01's refusals before it. Assumes nothing.
+-- A whole call of the string synth: string_synth_oscillator.rs, lines 53 to 151, with 01's refusals before it. Assumes nothing.
 use mathlib.Core.Bool.{Bool, true, not, _&&_, cond}
 use mathlib.Core.List.{List, [], _∷_}
 use Prim.Native.Nat.{ℕ}
@@ -92,7 +92,7 @@ renderOf s frequency registration gain xs =
     (cond (lt half32 frequency) (refusal 5 0 s xs)
     (run sampleAt rooms (interpolators s frequency registration gain (length xs)) s xs)))))
 
--- what a call returned and left in the buffer, in this paper's numbers
+-- what a call returned and left in the buffer, in 01's numbers
 abbrev pub left : Rendered → List Float → Call State
 left r xs = record { number = numberOf (r .answer); index = indexOf (r .answer); state = r .state; counts = r .counts; samples = xs }
 

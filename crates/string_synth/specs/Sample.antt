@@ -97,7 +97,7 @@ reachedOf s saws =
     let whole = wholePart phase' in
     cond (isSegment whole (s .segment)) (stayed s phase' whole) (crossed s saws phase' whole)
 
--- what the next sample starts with, lines 141 to 144
+-- what the next sample starts with, lines 141 to 144, with 0.125 and 0.25
 unfoldable pub nextSample : Reached → Saws → Float
 nextSample e saws =
     let of8 = e .«next_sample» ⊕ (e .phase ⊖ four32) ⊗ saws .«saw_8_gain» ⊗ f32 0x3e00_0000 in

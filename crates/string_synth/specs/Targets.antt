@@ -1,4 +1,4 @@
--- What a call's parameters become before its block starts: string_synth_oscillator.rs, lines 60 to 99. Assumes nothing.
+-- What a call's parameters become before its block starts: string_synth_oscillator.rs, lines 60 to 100. Assumes nothing.
 use mathlib.Core.Bool.{cond}
 use mathlib.Core.List.{List}
 use Prim.Native.Nat.{ℕ, zero, suc, _+_, _-_}
@@ -19,11 +19,15 @@ halved (suc k) o = cond (lt half32 (o .frequency)) (halved k (record { frequency
 abbrev pub lowered : Float → Octave
 lowered frequency = halved 4 (record { frequency = frequency; shift = 0 })
 
--- lines 75 to 78: 0.0 in the places that the shift leaves empty
+-- lines 75 to 78: 0.0 in the places that the shift leaves empty. A registration that is too short for a place is refused before.
 abbrev pub placedAt : List Float → ℕ → ℕ → Float
 placedAt unshifted shift i = cond (ltb i shift) zero32 (getD unshifted (i - shift) nan)
 
--- lines 60 to 99: the square of a saw is twice the saw less the one an octave above
+-- lines 88 and 93: a saw's own gain, less that of the square an octave below, and twice that of its own square
+abbrev pub gainBetween : Float → Float → Float → Float → Float
+gainBetween saw below square gain = (saw ⊖ below ⊕ two32 ⊗ square) ⊗ gain
+
+-- lines 60 to 100: a square wave is twice the saw of its length less the saw an octave above
 unfoldable pub targetsOf : Float → List Float → Float → Saws
 unfolding halved
 targetsOf frequency unshifted gain =
@@ -32,7 +36,7 @@ targetsOf frequency unshifted gain =
     record {
       frequency = octave .frequency;
       «saw_8_gain» = (registration 0 ⊕ two32 ⊗ registration 1) ⊗ gain;
-      «saw_4_gain» = (registration 2 ⊖ registration 1 ⊕ two32 ⊗ registration 3) ⊗ gain;
-      «saw_2_gain» = (registration 4 ⊖ registration 3 ⊕ two32 ⊗ registration 5) ⊗ gain;
+      «saw_4_gain» = gainBetween (registration 2) (registration 1) (registration 3) gain;
+      «saw_2_gain» = gainBetween (registration 4) (registration 3) (registration 5) gain;
       «saw_1_gain» = (registration 6 ⊖ registration 5) ⊗ gain;
     }

@@ -15,7 +15,7 @@ pub struct Saws {
     pub saw_1_gain: f32,
 }
 
-// Where a step has brought the phase: a sample in the making. Its segment is no more negative than a whole part is.
+// Where a step has brought the phase: a sample in the making. Its segment is a whole part, never negative, and so unsigned.
 pub struct Reached {
     pub phase: f32,
     pub segment: u32,

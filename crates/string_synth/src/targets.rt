@@ -2,7 +2,7 @@
 ghost use mathlib.Core.Path.{_≡_};
 ghost use Prim.Native.Nat.{_<_};
 ghost use lib.ListN.{length};
-ghost use Rattle.string_synth.specs.Targets.{lowered, placedAt, targetsOf};
+ghost use Rattle.string_synth.specs.Targets.{lowered, placedAt, gainBetween, targetsOf};
 use crate::sample::Saws;
 
 // A frequency some octaves down, and the registration places that this shifts by.
@@ -39,6 +39,13 @@ fn placed(registration: &[f32], shift: usize, i: usize) -> f32
     }
 }
 
+// The gain of a saw that has a square below it: its own, less that square's, and twice its own square's.
+fn gain_between(saw: f32, below: f32, square: f32, gain: f32) -> f32
+    ensures { λ r. ⌜ r ≡ gainBetween saw below square gain ⌝ }
+{
+    (saw - below + 2.0 * square) * gain
+}
+
 pub(crate) fn targets(frequency: f32, unshifted_registration: &[f32], gain: f32) -> Saws
     requires { ⌜ length (now «unshifted_registration») ≡ 7 ⌝ }
     ensures { λ r. ⌜ r ≡ targetsOf frequency (now («unshifted_registration» .entry)) gain ⌝ }
@@ -57,8 +64,8 @@ pub(crate) fn targets(frequency: f32, unshifted_registration: &[f32], gain: f32)
     Saws {
         frequency: octave.frequency,
         saw_8_gain: (registration[0] + 2.0 * registration[1]) * gain,
-        saw_4_gain: (registration[2] - registration[1] + 2.0 * registration[3]) * gain,
-        saw_2_gain: (registration[4] - registration[3] + 2.0 * registration[5]) * gain,
+        saw_4_gain: gain_between(registration[2], registration[1], registration[3], gain),
+        saw_2_gain: gain_between(registration[4], registration[3], registration[5], gain),
         saw_1_gain: (registration[6] - registration[5]) * gain,
     }
 }

@@ -1,4 +1,4 @@
--- A whole call of the super square: super_square_oscillator.rs, lines 35 to 132, with 01's refusals before it. Assumes nothing.
+-- A whole call of the super square: super_square_oscillator.rs, lines 38 to 132, with 01's refusals before it. Assumes nothing.
 use mathlib.Core.Bool.{Bool, false, not, _&&_, cond}
 use mathlib.Core.List.{List, [], _∷_}
 use Prim.Native.Nat.{ℕ}
@@ -23,7 +23,7 @@ use Rattle.super_square.specs.Sample.{sampleAt}
 abbrev pub newState : State
 newState = record { «master_phase» = zero32; «slave_phase» = zero32; «next_sample» = zero32; high = false; «master_frequency» = zero32; «slave_frequency» = zero32 }
 
--- lines 25 to 33; the slave's frequency is 0.01
+-- lines 27 to 35; the slave's frequency is 0.01
 abbrev pub initState : State
 initState = record { «master_phase» = zero32; «slave_phase» = zero32; «next_sample» = zero32; high = false; «master_frequency» = zero32; «slave_frequency» = f32 0x3c23_d70a }
 
@@ -36,14 +36,14 @@ stateIn s =
 unfoldable pub parametersIn : Float → Float → Bool
 parametersIn frequency shape = parameterFrequencyIn frequency && unitIn shape
 
--- the slave's factor, lines 38 to 42: 0.51 + 0.98 * shape below 0.5, else 1 + 16 * (shape - 0.5) * (shape - 0.5)
+-- the slave's factor, lines 40 to 44: 0.51 + 0.98 * shape below 0.5, else 1 + 16 * (shape - 0.5) * (shape - 0.5)
 abbrev pub factorOf : Float → Float
 factorOf shape =
     cond (lt shape half32)
     (f32 0x3f02_8f5c ⊕ f32 0x3f7a_e148 ⊗ shape)
     (one32 ⊕ sixteen32 ⊗ (shape ⊖ half32) ⊗ (shape ⊖ half32))
 
--- lines 52 to 54: the master's frequency moves to the parameter, the slave's to the factor's product with it
+-- lines 39 to 56: the master's frequency moves to the parameter, the slave's to its product with the factor, each clipped at 0.25
 abbrev pub interpolators : State → Float → Float → ℕ → List ParameterInterpolator
 interpolators s frequency shape n =
     newInterpolator (s .«master_frequency») (clipped frequency) n
@@ -61,7 +61,7 @@ renderOf s frequency shape xs =
     (cond (not (parametersIn frequency shape)) (refusal 4 0 s xs)
     (run sampleAt rooms (interpolators s frequency shape (length xs)) s xs)))
 
--- what a call returned and left in the buffer, in this paper's numbers
+-- what a call returned and left in the buffer, in 01's numbers
 abbrev pub left : Rendered → List Float → Call State
 left r xs = record { number = numberOf (r .answer); index = indexOf (r .answer); state = r .state; counts = r .counts; samples = xs }
 

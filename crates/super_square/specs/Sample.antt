@@ -75,7 +75,7 @@ finish e s cycles cuts = record {
 }
 
 -- The phases, the side and the frequencies after a sample. The source stores the frequencies as it drops their interpolators, and what it
--- stores is the last step. Lines 66: the next sample starts from 0.
+-- stores is the last step. `next_sample` is a place that `finish` fills.
 abbrev pub after : Float → Float → Bool → Float → Float → State
 after masterPhase slavePhase high masterFrequency slaveFrequency = record {
   «master_phase» = masterPhase;

@@ -59,7 +59,7 @@ renderOf s frequency pw waveshape xs =
     (cond (not (parametersIn frequency pw waveshape)) (refusal 4 0 s xs)
     (run sampleAt rooms (interpolators s frequency pw waveshape (length xs)) s xs)))
 
--- what a call returned and left in the buffer, in this paper's numbers
+-- what a call returned and left in the buffer, in 01's numbers
 abbrev pub left : Rendered → List Float → Call State
 left r xs = record { number = numberOf (r .answer); index = indexOf (r .answer); state = r .state; counts = r .counts; samples = xs }
 

@@ -31,7 +31,8 @@ waveOf pw waveshape = record {
 abbrev pub triangleStep : Wave → Float → Float
 triangleStep w frequency = (w .«slope_up» ⊕ w .«slope_down») ⊗ frequency ⊗ w .«triangle_amount»
 
--- how many samples ago the phase came to the width, line 79. The width moves too: where it moves by the frequency, this is no number.
+-- how many samples ago the phase came to the width, line 79. The width moves too: where it has moved up by just the frequency, the divisor is 0
+-- and this is an infinity or a NaN.
 abbrev pub riseTime : Float → Float → Float → Float → Float
 riseTime phase pw previousPw frequency = (phase ⊖ pw) ⊘ (previousPw ⊖ pw ⊕ frequency)
 

@@ -88,7 +88,7 @@ renderOf s masterFrequency frequency pw waveshape phaseModulation sync phaseOutp
     (cond (not (parametersIn masterFrequency frequency pw waveshape phaseModulation)) (refusal 4 0 s xs)
     (run (sampleAt sync phaseOutput) (rooms phaseOutput) (stepping phaseOutput (interpolatorsOf s masterFrequency frequency pw waveshape phaseModulation (length xs))) s xs)))
 
--- what a call returned and left in the buffer, in this paper's numbers
+-- what a call returned and left in the buffer, in 01's numbers
 abbrev pub left : Rendered → List Float → Call State
 left r xs = record { number = numberOf (r .answer); index = indexOf (r .answer); state = r .state; counts = r .counts; samples = xs }
 
@@ -99,7 +99,7 @@ countedPhase sync s = cond sync (s .«master_phase») (s .«slave_phase»)
 abbrev pub countedStep : Bool → ℕ
 countedStep sync = cond sync 0 1
 
--- for chains: one call's arguments, the call, and the steps of the counted phase that it used
+-- for chains, in which sync is never switched, and so is no argument: one call's arguments, the call, and the steps of the counted phase that it used
 pub record Arguments : Type 0 where
   pub master-frequency : Float
   pub frequency : Float

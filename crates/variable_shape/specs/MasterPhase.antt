@@ -27,13 +27,14 @@ withMasterPhase s phase = record {
   «phase_modulation» = s .«phase_modulation»;
 }
 
--- 01: 4, and the state as given, unless the phase is at least 0 and below 1; else 0, and only the master's phase changes
+-- 01: 4, and the state as given, unless the phase is at least 0 and below 1; else 0, and only the master's phase changes,
+-- stored bit by bit, a -0.0 as such. The state is not tested.
 abbrev pub masterPhaseSet : State → Float → Setting
 masterPhaseSet s phase =
     cond (phaseIn phase)
     (record { number = 0; index = 0; state = withMasterPhase s phase })
     (record { number = 4; index = 0; state = s })
 
--- what a call returned, in this paper's numbers
+-- what a call returned, in 01's numbers
 abbrev pub leftSet : PhaseSet → Setting
 leftSet r = record { number = numberOf (r .answer); index = indexOf (r .answer); state = r .state }

@@ -10,7 +10,7 @@ use Rattle.polyblep.specs.Polyblep.{thisBlepSample, nextBlepSample, thisIntegra
 use Rattle.block.specs.declared.Edge.{Edge}
 use Rattle.block.specs.Counting.{oneIf}
 use Rattle.block.specs.Crossings.{crossings}
-use Rattle.block.specs.Sync.{slaveAtReset, wrapOnce, transitionDuringReset, cutEdge}
+use Rattle.block.specs.Sync.{resetTime, slaveAtReset, wrapOnce, transitionDuringReset, cutEdge}
 use Rattle.block.specs.Play.{Sample}
 use Rattle.variable_shape.specs.declared.State.{State}
 use Rattle.variable_shape.specs.declared.steps.Steps.{Steps}
@@ -18,7 +18,7 @@ use Rattle.variable_shape.specs.declared.waveform.Waveform.{Waveform}
 use Rattle.variable_shape.specs.declared.sample.Sampled.{Sampled}
 use Rattle.variable_shape.specs.Waveform.{waveformOf, naiveOf, triangleStepOf}
 
--- up through the width, lines 149 to 157
+-- up through the width, lines 149 to 157. The width moves too: where it has moved up by just the frequency, the divisor of t is 0.
 unfoldable pub riseOf : Waveform → Edge → Edge
 riseOf w e =
     let t = (e .phase ⊖ w .pw) ⊘ (w .«previous_pw» ⊖ w .pw ⊕ w .«slave_frequency») in
@@ -86,7 +86,7 @@ outputOf sync phaseOutput masterPhase pw phaseModulation thisSample =
     (two32 ⊗ thisSample ⊖ one32)
 
 -- The phases, the side and the parameters after a sample. The source stores the parameters as it drops their interpolators, and what it stores is
--- the last step. Line 101: the next sample starts from 0.
+-- the last step. `next_sample` is a place that `finish` fills.
 abbrev pub after : Steps → Float → Float → Bool → State
 after steps masterPhase slavePhase high = record {
   «master_phase» = masterPhase;
@@ -124,7 +124,7 @@ finish sync phaseOutput w e s cycles cuts = record {
 unfoldable pub resetSample : Bool → State → Steps → Float → Sampled
 resetSample phaseOutput s steps masterPhase =
     let w = waveformOf steps (s .«previous_pw») in
-    let time = masterPhase ⊘ steps .«master_frequency» in
+    let time = resetTime masterPhase (steps .«master_frequency») in
     let e = resetEdge s w time in
     finish true phaseOutput w e (after steps masterPhase (time ⊗ steps .«slave_frequency») false) 1 (oneIf (e .high))
 

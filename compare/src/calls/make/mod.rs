@@ -6,7 +6,7 @@ pub mod drifts;
 pub mod fields;
 pub mod figures;
 pub mod fixed;
-mod setups;
+pub mod setups;
 
 use super::record::Record;
 use super::Kinds;

@@ -1,0 +1,46 @@
+-- Demand 1: "Every call ends, for all bit patterns. An unfit call is refused by number, in a fixed order; the state comes back as given, counts are zero, no sample is touched.
+-- A string pitch too high has a number of its own."
+-- That a call ends, and that it is the definition's, is the contract of each `render`, which asks nothing of its caller; the order stands in each `renderOf`. Here: whatever its
+-- answer but 0, a call is a refusal, which gives the state back, counts nothing and leaves the buffer. Assumes nothing.
+use mathlib.Core.Path.{_≡_, refl}
+use mathlib.Core.Bool.{Bool, true}
+use mathlib.Core.Logic.{_⊎_, inr}
+use mathlib.Core.List.{List}
+use Prim.Native.Nat.{ℕ}
+use lib.Ieee.{Float}
+use Rattle.block.specs.Calls.{Call, refusal}
+use Rattle.block.proofs.CallLaws.{run-refused}
+use Rattle.super_square.specs.declared.State as SuperSquareState
+use Rattle.super_square.specs.Block as SuperSquare
+use Rattle.super_square.proofs.Phase as SuperSquarePhase
+use Rattle.variable_shape.specs.declared.State as ShapeState
+use Rattle.variable_shape.specs.Block as Shape
+use Rattle.variable_shape.proofs.Phase as ShapePhase
+use Rattle.variable_saw.specs.declared.State as SawState
+use Rattle.variable_saw.specs.Block as Saw
+use Rattle.variable_saw.proofs.Phase as SawPhase
+use Rattle.nes_triangle.specs.declared.State as NesState
+use Rattle.nes_triangle.specs.Block as Nes
+use Rattle.nes_triangle.proofs.Phase as NesPhase
+use Rattle.string_synth.specs.declared.State as StringState
+use Rattle.string_synth.specs.Block as String
+use Rattle.string_synth.proofs.Phase as StringPhase
+
+-- answered, or refused and nothing changed
+abbrev pub AnsweredOrAsGiven : {S : Type 0} → S → List Float → Call S → Type 0
+AnsweredOrAsGiven s xs c = (c .number ≡ 0) ⊎ (c ≡ refusal (c .number) (c .index) s xs)
+
+pub super-square : (s : SuperSquareState.State) (a : SuperSquare.Arguments) → AnsweredOrAsGiven s (a .buffer) (SuperSquare.callOf s a)
+super-square s a = SuperSquarePhase.by-ways s a (AnsweredOrAsGiven s (a .buffer)) (λ number h. inr refl) (run-refused _ _ _ s (a .buffer))
+
+pub variable-shape : (sync : Bool) (s : ShapeState.State) (a : Shape.Arguments) → AnsweredOrAsGiven s (a .buffer) (Shape.callOf sync s a)
+variable-shape sync s a = ShapePhase.by-ways sync s a (AnsweredOrAsGiven s (a .buffer)) (λ number h. inr refl) (run-refused _ _ _ s (a .buffer))
+
+pub variable-saw : (s : SawState.State) (a : Saw.Arguments) → AnsweredOrAsGiven s (a .buffer) (Saw.callOf s a)
+variable-saw s a = SawPhase.by-ways s a (AnsweredOrAsGiven s (a .buffer)) (λ number h. inr refl) (run-refused _ _ _ s (a .buffer))
+
+pub nes-triangle : (s : NesState.State) (a : Nes.Arguments) → AnsweredOrAsGiven s (a .buffer) (Nes.callOf s a)
+nes-triangle s a = NesPhase.by-ways s a (AnsweredOrAsGiven s (a .buffer)) (λ number h. inr refl) (λ p q. run-refused _ _ _ s (a .buffer))
+
+pub string-synth : (s : StringState.State) (a : String.Arguments) → AnsweredOrAsGiven s (a .buffer) (String.callOf s a)
+string-synth s a = StringPhase.by-ways s a (AnsweredOrAsGiven s (a .buffer)) (λ number h. inr refl) (run-refused _ _ _ s (a .buffer))

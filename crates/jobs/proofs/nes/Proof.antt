@@ -1,0 +1,33 @@
+-- `jobs::nes` meets its contract: a step count of another form is refused. Assumes nothing.
+use mathlib.Core.Path.{sym, ap, _∙_}
+use Rattle.jobs.proofs.Plays.{plays, refuses}
+use Rattle.jobs.specs.Record.{stepCountIn, nesOf}
+use borrow.Author.Needs.{needs}
+use Rattle.jobs.proofs.nes.Statement.{statement}
+use Rattle.jobs.proofs.nes.Tie as tie
+
+word-at-requires : tie.Need-word-at-requires
+word-at-requires c κs = search needs
+
+step-count-in-requires : tie.Need-step-count-in-requires
+step-count-in-requires c κs = search needs
+
+float-at-requires : tie.Need-float-at-requires
+float-at-requires c κs = search needs
+
+returns : tie.Need-returns
+unfolding nesOf
+returns c =
+    let t = c .before .before in
+    plays (sym (ap stepCountIn (t .before .word-at .ensures)) ∙ sym (t .step-count-in .ensures) ∙ c .before .if1 .taken) (cc)
+
+returns-2 : tie.Need-returns-2
+unfolding nesOf
+returns-2 c =
+    let t = c .before in
+    refuses _ (sym (ap stepCountIn (t .before .word-at .ensures)) ∙ sym (t .step-count-in .ensures) ∙ c .if1 .left)
+
+pub nes-spec : {M : Type 1} → statement M
+nes-spec =
+    tie.close
+    (tie.spec word-at-requires step-count-in-requires float-at-requires returns returns-2)

@@ -1,0 +1,18 @@
+-- `jobs::string` meets its contract. Assumes nothing.
+use Rattle.jobs.specs.Record.{stringOf}
+use borrow.Author.Needs.{needs}
+use Rattle.jobs.proofs.string.Statement.{statement}
+use Rattle.jobs.proofs.string.Tie as tie
+
+float-at-requires : tie.Need-float-at-requires
+float-at-requires c κs = search needs
+
+float-at-requires-2 : tie.Need-float-at-requires-2
+float-at-requires-2 c κs = search needs
+
+returns : tie.Need-returns
+unfolding stringOf
+returns c = cc
+
+pub string-spec : {M : Type 1} → statement M
+string-spec = tie.close (tie.spec float-at-requires float-at-requires-2 returns)

@@ -1,0 +1,17 @@
+-- `jobs::words::byte_at` meets its contract, past the end too. Assumes nothing.
+use Rattle.jobs.proofs.Past.{byte-past}
+use borrow.Author.Needs.{needs}
+use Rattle.jobs.proofs.words.byte_at.Statement.{statement}
+use Rattle.jobs.proofs.words.byte_at.Tie as tie
+
+shared-slice-read-result : tie.Need-shared-slice-read-result
+shared-slice-read-result c = search needs
+
+returns : tie.Need-returns
+returns c = search needs
+
+returns-2 : tie.Need-returns-2
+returns-2 c = byte-past (c .before .args .part .now) _ (c .if1 .left)
+
+pub byte-at-spec : {M : Type 1} → statement M
+byte-at-spec = tie.close (tie.spec shared-slice-read-result returns returns-2)

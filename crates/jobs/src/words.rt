@@ -1,0 +1,65 @@
+// Bytes, words and floats of a record, little-endian. Past the end all is 0, so that no caller has to show a length.
+ghost use mathlib.Core.Path.{_≡_};
+ghost use lib.ListN.{getD};
+ghost use Rattle.jobs.specs.Words.{shortAt, wordAt, floatAt, floatsAt};
+
+pub fn byte_at(part: &[u8], i: usize) -> u8
+    ensures { λ r. ⌜ r ≡ getD (now (part .entry)) i 0 ⌝ }
+{
+    if i < part.len() { part[i] } else { 0 }
+}
+
+pub fn short_at(part: &[u8], i: usize) -> u16
+    ensures { λ r. ⌜ r ≡ shortAt (now (part .entry)) i ⌝ }
+{
+    if i < part.len() {
+        wide16(byte_at(part, i)) + 256 * wide16(byte_at(part, i + 1))
+    } else {
+        0
+    }
+}
+
+pub fn word_at(part: &[u8], i: usize) -> u32
+    ensures { λ r. ⌜ r ≡ wordAt (now (part .entry)) i ⌝ }
+{
+    if i < part.len() {
+        wide32(short_at(part, i)) + 65536 * wide32(short_at(part, i + 2))
+    } else {
+        0
+    }
+}
+
+// The float of any four bytes, a NaN's too.
+pub fn float_at(part: &[u8], i: usize) -> f32
+    ensures { λ r. ⌜ r ≡ floatAt (now (part .entry)) i ⌝ }
+{
+    floats::from_bits(word_at(part, i))
+}
+
+// Bytes 28 to 55.
+pub fn registration(part: &[u8]) -> [f32; 7]
+    ensures { λ r. ⌜ r ≡ floatsAt 7 (now (part .entry)) 28 ⌝ }
+{
+    [
+        float_at(part, 28),
+        float_at(part, 32),
+        float_at(part, 36),
+        float_at(part, 40),
+        float_at(part, 44),
+        float_at(part, 48),
+        float_at(part, 52),
+    ]
+}
+
+// A cast in a function of its own asks nothing of its callers.
+fn wide16(x: u8) -> u16
+    ensures { λ r. ⌜ r ≡ x ⌝ }
+{
+    x as u16
+}
+
+fn wide32(x: u16) -> u32
+    ensures { λ r. ⌜ r ≡ x ⌝ }
+{
+    x as u32
+}

@@ -1,0 +1,99 @@
+-- A refused record changes no state. Assumes nothing.
+use mathlib.Core.Path.{_≡_, refl, sym, ap, subst}
+use mathlib.Core.Bool.{Bool, not}
+use mathlib.Core.List.{List}
+use Prim.Native.Nat.{ℕ}
+use lib.Dec.{ltb, eqb}
+use lib.ListN.{length}
+use lib.Ieee.{Float, lt}
+use Rattle.floats.specs.F32.{half32}
+use Rattle.parameter_interpolator.specs.declared.ParameterInterpolator.{ParameterInterpolator}
+use Rattle.block.specs.declared.Room.{Room}
+use Rattle.block.specs.declared.Found.{Found}
+use Rattle.block.specs.declared.Found.the-variants.{Outside, Nowhere}
+use Rattle.block.specs.Steps.{stepsOf, firstOutside}
+use Rattle.block.specs.Play.{Sample}
+use Rattle.block.specs.Calls.{Call, run}
+use Rattle.block.proofs.Bools.{cond-both}
+use Rattle.block.proofs.Runs.{run-drift, run-done}
+use Rattle.jobs.specs.Record.{jobOf}
+use Rattle.jobs.specs.declared.Settings.{Settings}
+use Rattle.jobs.specs.declared.Settings.the-variants.{VariableShape, VariableSaw, SuperSquare, NesTriangle, StringSynth}
+use Rattle.jobs.specs.declared.Asked.{Asked}
+use Rattle.jobs.specs.declared.Asked.the-variants.{BadRecord, Play}
+use Rattle.variable_shape.specs.Block as Shape
+use Rattle.variable_saw.specs.Block as Saw
+use Rattle.super_square.specs.Block as Square
+use Rattle.nes_triangle.specs.Block as Nes
+use Rattle.string_synth.specs.Block as Strings
+use Rattle.variable_shape.specs.declared.State.{State as ShapeState}
+use Rattle.variable_saw.specs.declared.State.{State as SawState}
+use Rattle.super_square.specs.declared.State.{State as SquareState}
+use Rattle.nes_triangle.specs.declared.State.{State as NesState}
+use Rattle.string_synth.specs.declared.State.{State as StringState}
+use Rattle.render.specs.declared.bank.Bank.{Bank}
+use Rattle.render.specs.Bank.{withShape, withSaw, withSuperSquare, withNes, withString, settingsPlayed, askedPlayed, recordPlayed, silence}
+
+-- a call that is not Done gives the state back
+abbrev Kept : {S : Type 0} → S → Call S → Type 0
+Kept s c = (c .number ≡ 0 → ⊥) → c .state ≡ s
+
+run-kept : {S : Type 0} (make : S → List Float → Float → Sample S) (rooms : List Room) (ps : List ParameterInterpolator) (s : S) (xs : List Float) → Kept s (run make rooms ps s xs)
+run-kept make rooms ps s xs = go (firstOutside rooms (stepsOf (length xs) ps)) refl
+  where
+    go : (f : Found) → firstOutside rooms (stepsOf (length xs) ps) ≡ f → Kept s (run make rooms ps s xs)
+    go (Outside i) h = subst (Kept s) (sym (run-drift make rooms ps s xs i h)) (λ n. refl)
+    go Nowhere h = subst (Kept s) (sym (run-done make rooms ps s xs h)) (λ n. absurd (n refl))
+
+shape-kept : (s : ShapeState) (m f w v d : Float) (sync out : Bool) (xs : List Float) → Kept s (Shape.renderOf s m f w v d sync out xs)
+unfolding Shape.renderOf
+shape-kept s m f w v d sync out xs =
+    cond-both (Kept s) (ltb 4096 (length xs)) _ _ (λ h. refl)
+    (cond-both (Kept s) (not (Shape.stateIn s)) _ _ (λ h. refl)
+    (cond-both (Kept s) (not (Shape.parametersIn m f w v d)) _ _ (λ h. refl) (run-kept _ _ _ s xs)))
+
+saw-kept : (s : SawState) (f w v : Float) (xs : List Float) → Kept s (Saw.renderOf s f w v xs)
+unfolding Saw.renderOf
+saw-kept s f w v xs =
+    cond-both (Kept s) (ltb 4096 (length xs)) _ _ (λ h. refl)
+    (cond-both (Kept s) (not (Saw.stateIn s)) _ _ (λ h. refl)
+    (cond-both (Kept s) (not (Saw.parametersIn f w v)) _ _ (λ h. refl) (run-kept _ _ _ s xs)))
+
+square-kept : (s : SquareState) (f h : Float) (xs : List Float) → Kept s (Square.renderOf s f h xs)
+unfolding Square.renderOf
+square-kept s f h xs =
+    cond-both (Kept s) (ltb 4096 (length xs)) _ _ (λ h. refl)
+    (cond-both (Kept s) (not (Square.stateIn s)) _ _ (λ h. refl)
+    (cond-both (Kept s) (not (Square.parametersIn f h)) _ _ (λ h. refl) (run-kept _ _ _ s xs)))
+
+nes-kept : (s : NesState) (f : Float) (bits : ℕ) (xs : List Float) → Kept s (Nes.renderOf s f bits xs)
+unfolding Nes.renderOf
+nes-kept s f bits xs =
+    cond-both (Kept s) (ltb 4096 (length xs)) _ _ (λ h. refl)
+    (cond-both (Kept s) (not (Nes.stateIn s bits)) _ _ (λ h. refl)
+    (cond-both (Kept s) (not (Nes.parametersIn f bits)) _ _ (λ h. refl) (run-kept _ _ _ s xs)))
+
+string-kept : (s : StringState) (f : Float) (registration : List Float) (g : Float) (xs : List Float) → Kept s (Strings.renderOf s f registration g xs)
+unfolding Strings.renderOf
+string-kept s f registration g xs =
+    cond-both (Kept s) (ltb 4096 (length xs)) _ _ (λ h. refl)
+    (cond-both (Kept s) (not (eqb (length registration) 7)) _ _ (λ h. refl)
+    (cond-both (Kept s) (not (Strings.stateIn s)) _ _ (λ h. refl)
+    (cond-both (Kept s) (not (Strings.parametersIn f registration g)) _ _ (λ h. refl)
+    (cond-both (Kept s) (lt half32 f) _ _ (λ h. refl) (run-kept _ _ _ s xs)))))
+
+settings-kept : (b : Bank) (s : Settings) (registration xs : List Float) → (settingsPlayed b s registration xs .outcome .answer ≡ 0 → ⊥) → settingsPlayed b s registration xs .bank ≡ b
+settings-kept b (VariableShape f m w v d sync out) registration xs h = ap (withShape b) (shape-kept (b .shape) m f w v d sync out xs h)
+settings-kept b (VariableSaw f w v) registration xs h = ap (withSaw b) (saw-kept (b .saw) f w v xs h)
+settings-kept b (SuperSquare f v) registration xs h = ap (withSuperSquare b) (square-kept (b .«super_square») f v xs h)
+settings-kept b (NesTriangle f bits) registration xs h = ap (withNes b) (nes-kept (b .nes) f bits xs h)
+settings-kept b (StringSynth f g) registration xs h = ap (withString b) (string-kept (b .string) f registration g xs h)
+
+-- 01: "A refused record changes nothing"
+pub record-kept : (b : Bank) (p : List ℕ) → (recordPlayed b p .outcome .answer ≡ 0 → ⊥) → recordPlayed b p .bank ≡ b
+unfolding recordPlayed
+record-kept b p = go (jobOf p .asked)
+  where
+    go : (a : Asked) → (askedPlayed b a (jobOf p .registration) (silence (jobOf p .«block_length»)) .outcome .answer ≡ 0 → ⊥) → askedPlayed b a (jobOf p .registration) (silence (jobOf p .«block_length»)) .bank ≡ b
+    go BadRecord h = refl
+    go (Play s) h = settings-kept b s (jobOf p .registration) (silence (jobOf p .«block_length»)) h

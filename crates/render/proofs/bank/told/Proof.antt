@@ -1,0 +1,16 @@
+-- `render::bank::told` meets its contract. Assumes nothing.
+use borrow.Author.Needs.{needs}
+use Rattle.render.proofs.bank.told.Statement.{statement}
+use Rattle.render.proofs.bank.told.Tie as tie
+
+number-requires : tie.Need-number-requires
+number-requires c κs = search needs
+
+index-requires : tie.Need-index-requires
+index-requires c κs = search needs
+
+returns : tie.Need-returns
+returns c = cc
+
+pub told-spec : {M : Type 1} → statement M
+told-spec = tie.close (tie.spec number-requires index-requires returns)

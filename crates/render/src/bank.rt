@@ -1,0 +1,222 @@
+// One state of each kind, and what one record makes of them.
+ghost use mathlib.Core.Path.{_≡_};
+ghost use Rattle.variable_shape.specs.Block.{renderOf as shapeCall};
+ghost use Rattle.variable_saw.specs.Block.{renderOf as sawCall};
+ghost use Rattle.super_square.specs.Block.{renderOf as superSquareCall};
+ghost use Rattle.nes_triangle.specs.Block.{renderOf as nesCall};
+ghost use Rattle.string_synth.specs.Block.{renderOf as stringCall};
+ghost use Rattle.render.specs.Bank.{initBank, toldOf, shapePlayed, sawPlayed, superSquarePlayed, nesPlayed, stringPlayed, settingsPlayed, recordPlayed, silence};
+ghost use Rattle.render.specs.Private.{lentOf};
+use block::Answer;
+use block::Counts;
+use jobs::Asked;
+use jobs::Settings;
+
+pub struct Bank {
+    pub shape: variable_shape::State,
+    pub saw: variable_saw::State,
+    pub super_square: super_square::State,
+    pub nes: nes_triangle::State,
+    pub string: string_synth::State,
+}
+
+// What a record's line says after its index.
+pub struct Outcome {
+    pub answer: u32,
+    pub drift: u32,
+    pub counts: Counts,
+}
+
+pub struct Played {
+    pub bank: Bank,
+    pub outcome: Outcome,
+}
+
+pub fn start() -> Bank
+    ensures { λ r. ⌜ r ≡ initBank ⌝ }
+{
+    Bank {
+        shape: variable_shape::init(),
+        saw: variable_saw::init(),
+        super_square: super_square::init(),
+        nes: nes_triangle::init(),
+        string: string_synth::init(),
+    }
+}
+
+// A malformed record changes nothing.
+pub fn play(bank: Bank, part: &[u8]) -> Played
+    ensures { λ r. ⌜ r ≡ recordPlayed bank (now (part .entry)) ⌝ }
+{
+    let job = jobs::read(part);
+    let asked = job.asked;
+    match asked {
+        Asked::BadRecord => Played {
+            bank,
+            outcome: told(Answer::BadRecord, block::none()),
+        },
+        Asked::Play(settings) => {
+            let registration = job.registration;
+            on_silence(bank, settings, registration, job.block_length)
+        }
+    }
+}
+
+// The call on zeros. A block that is too long is refused whatever its length, so that 4,097 samples stand for it.
+fn on_silence(bank: Bank, settings: Settings, registration: [f32; 7], n: u16) -> Played
+    ensures { λ r. ⌜ r ≡ settingsPlayed bank settings registration (silence n) ⌝ }
+{
+    let mut buffer = [0.0f32; 4097];
+    let e = lent(n);
+    by_kind(bank, settings, registration, &mut buffer[0..e])
+}
+
+fn lent(n: u16) -> usize
+    ensures { λ r. ⌜ r ≡ lentOf n ⌝ }
+{
+    if n <= 4097 { n as usize } else { 4097 }
+}
+
+fn by_kind(bank: Bank, settings: Settings, registration: [f32; 7], out: &mut [f32]) -> Played
+    ensures { λ r. ⌜ r ≡ settingsPlayed bank settings registration (now (out .entry)) ⌝ }
+{
+    match settings {
+        Settings::VariableShape {
+            frequency,
+            master_frequency,
+            pw,
+            waveshape,
+            phase_modulation,
+            sync,
+            phase_output,
+        } => shape(
+            bank,
+            master_frequency,
+            frequency,
+            pw,
+            waveshape,
+            phase_modulation,
+            sync,
+            phase_output,
+            out,
+        ),
+        Settings::VariableSaw {
+            frequency,
+            pw,
+            waveshape,
+        } => saw(bank, frequency, pw, waveshape, out),
+        Settings::SuperSquare { frequency, shape } => super_square(bank, frequency, shape, out),
+        Settings::NesTriangle {
+            frequency,
+            num_bits,
+        } => nes(bank, frequency, num_bits, out),
+        Settings::StringSynth { frequency, gain } => {
+            string(bank, frequency, registration, gain, out)
+        }
+    }
+}
+
+fn told(answer: Answer, counts: Counts) -> Outcome
+    ensures { λ r. ⌜ r ≡ toldOf answer counts ⌝ }
+{
+    Outcome {
+        answer: block::number(answer),
+        drift: block::index(answer),
+        counts,
+    }
+}
+
+fn shape(
+    bank: Bank,
+    master_frequency: f32,
+    frequency: f32,
+    pw: f32,
+    waveshape: f32,
+    phase_modulation: f32,
+    sync: bool,
+    phase_output: bool,
+    out: &mut [f32],
+) -> Played
+    ensures { λ r. ⌜ r ≡ shapePlayed bank (shapeCall (bank .shape) «master_frequency» frequency pw waveshape «phase_modulation» sync «phase_output» (now (out .entry))) ⌝ }
+{
+    let state = bank.shape;
+    let r = variable_shape::render(
+        state,
+        master_frequency,
+        frequency,
+        pw,
+        waveshape,
+        phase_modulation,
+        sync,
+        phase_output,
+        out,
+    );
+    let mut after = bank;
+    let next = r.state;
+    after.shape = next;
+    let answer = r.answer;
+    Played {
+        bank: after,
+        outcome: told(answer, r.counts),
+    }
+}
+
+fn saw(bank: Bank, frequency: f32, pw: f32, waveshape: f32, out: &mut [f32]) -> Played
+    ensures { λ r. ⌜ r ≡ sawPlayed bank (sawCall (bank .saw) frequency pw waveshape (now (out .entry))) ⌝ }
+{
+    let state = bank.saw;
+    let r = variable_saw::render(state, frequency, pw, waveshape, out);
+    let mut after = bank;
+    let next = r.state;
+    after.saw = next;
+    let answer = r.answer;
+    Played {
+        bank: after,
+        outcome: told(answer, r.counts),
+    }
+}
+
+fn super_square(bank: Bank, frequency: f32, shape: f32, out: &mut [f32]) -> Played
+    ensures { λ r. ⌜ r ≡ superSquarePlayed bank (superSquareCall (bank .«super_square») frequency shape (now (out .entry))) ⌝ }
+{
+    let state = bank.super_square;
+    let r = super_square::render(state, frequency, shape, out);
+    let mut after = bank;
+    let next = r.state;
+    after.super_square = next;
+    let answer = r.answer;
+    Played {
+        bank: after,
+        outcome: told(answer, r.counts),
+    }
+}
+
+fn nes(bank: Bank, frequency: f32, num_bits: u32, out: &mut [f32]) -> Played
+    ensures { λ r. ⌜ r ≡ nesPlayed bank (nesCall (bank .nes) frequency «num_bits» (now (out .entry))) ⌝ }
+{
+    let state = bank.nes;
+    let r = nes_triangle::render(state, frequency, num_bits, out);
+    let mut after = bank;
+    let next = r.state;
+    after.nes = next;
+    let answer = r.answer;
+    Played {
+        bank: after,
+        outcome: told(answer, r.counts),
+    }
+}
+
+fn string(bank: Bank, frequency: f32, registration: [f32; 7], gain: f32, out: &mut [f32]) -> Played
+    ensures { λ r. ⌜ r ≡ stringPlayed bank (stringCall (bank .string) frequency registration gain (now (out .entry))) ⌝ }
+{
+    let state = bank.string;
+    let r = string_synth::render(state, frequency, &registration, gain, out);
+    let mut after = bank;
+    let next = r.state;
+    after.string = next;
+    let answer = r.answer;
+    Played {
+        bank: after,
+        outcome: told(answer, r.counts),
+    }
+}

@@ -1,0 +1,68 @@
+// A job list becomes one line of text for each record, in a lent buffer.
+ghost use mathlib.Core.Path.{_≡_};
+ghost use Prim.Native.Nat.{_≤_};
+ghost use lib.ListN.{length};
+ghost use Rattle.render.specs.Lists.{recordsFrom, linesOf, textOf, written, left};
+ghost use Rattle.render.specs.Private.{Wrote};
+
+mod bank;
+mod text;
+
+// No text is longer: 1,024 lines of seven numbers, each of ten digits and one byte more.
+pub const ROOM: usize = 78848;
+
+// How many bytes were written, or that the text would not have fitted, and nothing was.
+pub enum Written {
+    Text(usize),
+    NoRoom,
+}
+
+// The lines of every record, or the one line `8` for a list that is too long or no multiple of 64.
+pub fn render(list: &[u8], out: &mut [u8]) -> Written
+    ensures { λ r. ⌜ left r (now (out .exit)) ≡ written (textOf (now (list .entry))) (now (out .entry)) ⌝ }
+{
+    let mut whole = [0u8; ROOM];
+    let n = compose(list, &mut whole);
+    hand_over(&whole[0..n], out)
+}
+
+// The text, where it fits.
+fn hand_over(from: &[u8], out: &mut [u8]) -> Written
+    ensures { λ r. ⌜ left r (now (out .exit)) ≡ written (now (from .entry)) (now (out .entry)) ⌝ }
+{
+    if from.len() <= out.len() {
+        Written::Text(text::append(out, 0, from))
+    } else {
+        Written::NoRoom
+    }
+}
+
+fn compose(list: &[u8], out: &mut [u8]) -> usize
+    requires { ⌜ 78848 ≤ length (now out) ⌝ }
+    ensures { λ r. ⌜ Wrote (now (out .entry)) 0 (textOf (now (list .entry))) r (now (out .exit)) ⌝ }
+{
+    if list.len() > 65536 {
+        return text::append(out, 0, b"8\n");
+    }
+    if list.len() % 64 != 0 {
+        return text::append(out, 0, b"8\n");
+    }
+    records(list, list.len() / 64, out)
+}
+
+// The lines of the first n records. Each kind's state goes from record to record.
+fn records(list: &[u8], n: usize, out: &mut [u8]) -> usize
+    requires { ⌜ (n ≤ 1024) × (78848 ≤ length (now out)) ⌝ }
+    ensures { λ r. ⌜ Wrote (now (out .entry)) 0 (linesOf (recordsFrom (now (list .entry)) 0 n)) r (now (out .exit)) ⌝ }
+{
+    let mut bank = bank::start();
+    let mut at = 0;
+    let mut k = 0;
+    while k < n {
+        let r = bank::play(bank, jobs::record(list, k));
+        bank = r.bank;
+        at = text::line(out, at, k as u32, r.outcome);
+        k += 1;
+    }
+    at
+}
