@@ -1,7 +1,8 @@
 /* Navuloqu's tone generators for C and for whoever calls C. Link libnavuloqu.a (x86-64), which `rt staticlib navuloqu` writes.
  *
  * Each oscillator has two functions, `init` and `render`. They keep nothing between calls: the state is the caller's, an array of 32-bit
- * words in the order of the fields given below, floats as their bit patterns, bools as 0 or 1.
+ * words in the order of the fields given below, floats as their bit patterns, bools as 0 or 1, whole numbers in two's complement.
+ * `init` writes the words of the oscillator's initial state.
  *
  * `render` writes `count` samples to `out` and six words to `result`:
  *   result[0]  the answer, one of the numbers below
@@ -15,6 +16,7 @@
 #ifndef NAVULOQU_H
 #define NAVULOQU_H
 
+#include <stdbool.h>
 #include <stddef.h>
 #include <stdint.h>
 
@@ -31,6 +33,45 @@ extern "C" {
 #define NAVULOQU_TOO_HIGH 5         /* string synth only: the frequency is above 0.5 */
 #define NAVULOQU_DRIFT 6            /* an interpolated step leaves its room */
 
+/* Variable shape. State words: master_phase, slave_phase, next_sample, previous_pw, high (bool), master_frequency, slave_frequency, pw,
+ * waveshape, phase_modulation. */
+#define NAVULOQU_VARIABLE_SHAPE_WORDS 10
+
+void navuloqu_variable_shape_init(uint32_t state[NAVULOQU_VARIABLE_SHAPE_WORDS]);
+
+void navuloqu_variable_shape_render(
+    uint32_t state[NAVULOQU_VARIABLE_SHAPE_WORDS], /* read; after answer 0 the state that the block left */
+    float master_frequency,                        /* in cycles per sample: 0.000001 to 1, also without `sync` */
+    float frequency,                               /* the slave's, in cycles per sample: 0.000001 to 1 */
+    float pw,                                      /* the slave's pulse width: 0 to 1 */
+    float waveshape,                               /* 0 to 1: from triangle over saw to square */
+    float phase_modulation,                        /* -8 to 8, also without `phase_output` */
+    bool sync,                                     /* whether the master resets the slave */
+    bool phase_output,                             /* whether the phase is put out, and not the waveform */
+    float *out,                                    /* `count` samples, overwritten */
+    size_t count,                                  /* at most 4,096, else the answer is 1 */
+    uint32_t result[6]);
+
+/* Sets the master's phase. Returns NAVULOQU_DONE, and state[0] is the phase bit by bit; or NAVULOQU_BAD_PARAM where the phase is not
+ * from 0 to below 1, and no word has changed. The other words are neither tested nor touched. */
+uint32_t navuloqu_variable_shape_set_master_phase(
+    uint32_t state[NAVULOQU_VARIABLE_SHAPE_WORDS],
+    float phase); /* at least 0 and below 1 */
+
+/* Variable saw. State words: phase, next_sample, previous_pw, high (bool), frequency, pw, waveshape. */
+#define NAVULOQU_VARIABLE_SAW_WORDS 7
+
+void navuloqu_variable_saw_init(uint32_t state[NAVULOQU_VARIABLE_SAW_WORDS]);
+
+void navuloqu_variable_saw_render(
+    uint32_t state[NAVULOQU_VARIABLE_SAW_WORDS], /* read; after answer 0 the state that the block left */
+    float frequency,                             /* in cycles per sample: 0.000001 to 1 */
+    float pw,                                    /* the pulse width: 0 to 1 */
+    float waveshape,                             /* 0 to 1: from the notched saw to the triangle */
+    float *out,                                  /* `count` samples, overwritten */
+    size_t count,                                /* at most 4,096, else the answer is 1 */
+    uint32_t result[6]);
+
 /* Super square. State words: master_phase, slave_phase, next_sample, high (bool), master_frequency, slave_frequency. */
 #define NAVULOQU_SUPER_SQUARE_WORDS 6
 
@@ -41,6 +82,34 @@ void navuloqu_super_square_render(
     float frequency,                             /* the master's, in cycles per sample: 0.000001 to 1 */
     float shape,                                 /* 0 to 1: how much faster the slave runs */
     float *out,                                  /* `count` samples, overwritten */
+    size_t count,                                /* at most 4,096, else the answer is 1 */
+    uint32_t result[6]);
+
+/* NES triangle. State words: phase, next_sample, step (whole number), ascending (bool), frequency. */
+#define NAVULOQU_NES_TRIANGLE_WORDS 5
+
+void navuloqu_nes_triangle_init(uint32_t state[NAVULOQU_NES_TRIANGLE_WORDS]);
+
+void navuloqu_nes_triangle_render(
+    uint32_t state[NAVULOQU_NES_TRIANGLE_WORDS], /* read; after answer 0 the state that the block left */
+    float frequency,                             /* in cycles per sample: 0.000001 to 1 */
+    uint32_t num_bits,                           /* 1 to 16: a cycle has 2^num_bits steps */
+    float *out,                                  /* `count` samples, overwritten */
+    size_t count,                                /* at most 4,096, else the answer is 1 */
+    uint32_t result[6]);
+
+/* String synth. State words: phase, next_sample, segment (whole number), frequency, saw_8_gain, saw_4_gain, saw_2_gain, saw_1_gain. */
+#define NAVULOQU_STRING_SYNTH_WORDS 8
+
+void navuloqu_string_synth_init(uint32_t state[NAVULOQU_STRING_SYNTH_WORDS]);
+
+void navuloqu_string_synth_render(
+    uint32_t state[NAVULOQU_STRING_SYNTH_WORDS], /* read; after answer 0 the state that the block left */
+    float frequency,                             /* in cycles per sample: 0.000001 to 0.5; to 1 the answer is 5 */
+    const float *registration,                   /* 0 to 1 each: saw 8', square 8', saw 4', square 4', saw 2', square 2', saw 1' */
+    size_t registration_count,                   /* 7, else the answer is 2 */
+    float gain,                                  /* 0 to 4 */
+    float *out,                                  /* `count` samples, to which the block is added */
     size_t count,                                /* at most 4,096, else the answer is 1 */
     uint32_t result[6]);
 

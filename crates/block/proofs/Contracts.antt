@@ -1,4 +1,4 @@
--- Any two outcomes that satisfy an equation's contract coincide; and an answer is fixed by this paper's number and index. Assumes nothing.
+-- An answer is fixed by its number and its index. Assumes nothing.
 use mathlib.Core.Path.{_≡_, refl, sym, _∙_, ap}
 use mathlib.Core.Bool.{cond}
 use Prim.Native.Nat.{ℕ}
@@ -6,9 +6,6 @@ use lib.Dec.{eqb}
 use Rattle.block.specs.declared.Answer.{Answer}
 use Rattle.block.specs.declared.Answer.the-variants.{Done, LongBlock, BadRegistration, BadState, BadParam, TooHigh, Drift, BadRecord, BadInput}
 use Rattle.block.specs.Answers.{numberOf, indexOf}
-
-pub coincide : {A : Type 0} {x y z : A} → x ≡ z → y ≡ z → x ≡ y
-coincide p q = p ∙ sym q
 
 -- the answer with this number and index
 answerOf : ℕ → ℕ → Answer

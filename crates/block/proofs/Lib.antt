@@ -12,3 +12,4 @@ pub mod CallLaws
 pub mod Contracts
 pub mod Crossings
 pub mod CrossingsWrap
+pub mod Tight

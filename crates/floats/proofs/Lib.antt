@@ -11,3 +11,5 @@ pub mod Ranges
 pub mod PowerOfTwo
 pub mod WholeNumbers
 pub mod Integers
+pub mod Contracts
+pub mod Tight

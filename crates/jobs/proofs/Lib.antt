@@ -3,3 +3,4 @@ pub mod Past
 pub mod ByteByByte
 pub mod Plays
 pub mod Steps
+pub mod Tight

@@ -1,13 +1,13 @@
 -- An accepted NES step count is 2 to the power of its trailing zeros, which are 1 to 16: the depths that the oscillator takes. Assumes nothing.
-use mathlib.Core.Path.{_≡_, refl, sym, ap, subst}
-use mathlib.Core.Bool.{Bool, true, false, _&&_}
+use mathlib.Core.Path.{_≡_, refl, ap}
+use mathlib.Core.Bool.{true, and-eq-true-iff}
 use mathlib.Core.Logic.{_⊎_, inl, inr, ⊎-elim}
 use Prim.Native.Nat.{ℕ, zero, suc, _/_, _%_, _^_, _≤_, _<_}
 use native.Mathlib.Nat.{pow-suc, mod-lt, div-add-mod', div-lt-iff-lt-mul, lt-of-not-le}
 use native.Mathlib.Omega.{arith}
 use borrow.Author.Tests.{eqb-true, leb-true}
 use lib.Arith.{lt-one}
-use lib.Dec.{T, lit<}
+use lib.Dec.{lit<}
 use lib.Pow.{pow-mono}
 use lib.Count.{ones, ones-step, trailingZeros, under}
 use Rattle.jobs.specs.Record.{stepCountIn}
@@ -51,12 +51,8 @@ depth n o l h = let p = one-bit 32 n (omega arith) o in (p, low (trailingZeros 3
     high : (t : ℕ) → n ≡ 2 ^ t → t ≤ 16
     high t p = omega (arith, lt-of-not-le (λ (g : 17 ≤ t). omega (arith, pow-mono g)))
 
-both : (p q : Bool) → (p && q) ≡ true → (p ≡ true) × (q ≡ true)
-both true q h = (refl, h)
-both false q h = absurd (subst T (sym h) tt)
-
 pub accepted : (steps : ℕ) → stepCountIn steps ≡ true → (steps ≡ 2 ^ trailingZeros 32 steps) × (1 ≤ trailingZeros 32 steps) × (trailingZeros 32 steps ≤ 16)
 accepted steps h =
-    let p = both _ _ h in
-    let q = both _ _ (p .0) in
+    let p = and-eq-true-iff _ _ .0 h in
+    let q = and-eq-true-iff _ _ .0 (p .0) in
     depth steps (eqb-true (ones steps) 1 (q .0)) (leb-true 2 steps (q .1)) (leb-true steps 65536 (p .1))

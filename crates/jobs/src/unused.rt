@@ -2,7 +2,7 @@
 ghost use mathlib.Core.Path.{_≡_};
 ghost use Rattle.jobs.specs.Fields.{between, usedBy, byteFine, unusedZero};
 
-pub fn zero(kind: u8, part: &[u8]) -> bool
+pub(crate) fn zero(kind: u8, part: &[u8]) -> bool
     ensures { λ r. ⌜ r ≡ unusedZero kind (now (part .entry)) ⌝ }
 {
     let mut i = 0;

@@ -3,13 +3,13 @@ ghost use mathlib.Core.Path.{_≡_};
 ghost use lib.ListN.{getD};
 ghost use Rattle.jobs.specs.Words.{shortAt, wordAt, floatAt, floatsAt};
 
-pub fn byte_at(part: &[u8], i: usize) -> u8
+pub(crate) fn byte_at(part: &[u8], i: usize) -> u8
     ensures { λ r. ⌜ r ≡ getD (now (part .entry)) i 0 ⌝ }
 {
     if i < part.len() { part[i] } else { 0 }
 }
 
-pub fn short_at(part: &[u8], i: usize) -> u16
+pub(crate) fn short_at(part: &[u8], i: usize) -> u16
     ensures { λ r. ⌜ r ≡ shortAt (now (part .entry)) i ⌝ }
 {
     if i < part.len() {
@@ -19,7 +19,7 @@ pub fn short_at(part: &[u8], i: usize) -> u16
     }
 }
 
-pub fn word_at(part: &[u8], i: usize) -> u32
+pub(crate) fn word_at(part: &[u8], i: usize) -> u32
     ensures { λ r. ⌜ r ≡ wordAt (now (part .entry)) i ⌝ }
 {
     if i < part.len() {
@@ -30,14 +30,14 @@ pub fn word_at(part: &[u8], i: usize) -> u32
 }
 
 // The float of any four bytes, a NaN's too.
-pub fn float_at(part: &[u8], i: usize) -> f32
+pub(crate) fn float_at(part: &[u8], i: usize) -> f32
     ensures { λ r. ⌜ r ≡ floatAt (now (part .entry)) i ⌝ }
 {
     floats::from_bits(word_at(part, i))
 }
 
 // Bytes 28 to 55.
-pub fn registration(part: &[u8]) -> [f32; 7]
+pub(crate) fn registration(part: &[u8]) -> [f32; 7]
     ensures { λ r. ⌜ r ≡ floatsAt 7 (now (part .entry)) 28 ⌝ }
 {
     [

@@ -2,7 +2,8 @@
 use mathlib.Core.Bool.{cond}
 use mathlib.Core.List.{List, [], _∷_}
 use Prim.Native.Nat.{ℕ}
-use lib.Dec.{eqb}
+use lib.Dec.{eqb, ltb}
+use lib.IntN.{ℤ, pos, negsuc}
 use lib.Ieee.{Float, binary32, toBits}
 use Rattle.block.specs.Calls.{Call}
 
@@ -22,3 +23,12 @@ faceOf wordsOf given c = record { words = cond (eqb (c .number) 0) (wordsOf (c .
 -- a float as its bit pattern, a NaN as 7fc00000
 abbrev pub bitsOf : Float → ℕ
 bitsOf x = toBits binary32 x
+
+-- the whole number of a word in two's complement; every word from 2^31 up stands for a negative number, which no range has, and so for -1
+abbrev pub signedOf : ℕ → ℤ
+signedOf w = cond (ltb w 0x8000_0000) (pos w) (negsuc 0)
+
+-- and the word of a whole number; a negative one, which no answered call leaves, is the word of -1
+abbrev pub unsignedOf : ℤ → ℕ
+unsignedOf (pos n) = n
+unsignedOf (negsuc n) = 0xffff_ffff

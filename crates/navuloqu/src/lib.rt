@@ -7,8 +7,13 @@ ghost use lib.Dec.{ltb};
 ghost use lib.Ieee.{neg};
 ghost use Rattle.floats.specs.F32.{f32, one32};
 ghost use Rattle.block.specs.Answers.{numberOf, indexOf};
+ghost use Rattle.navuloqu.specs.Face.{signedOf, unsignedOf};
 
-mod super_square_face;
+pub mod nes_triangle_face;
+pub mod string_synth_face;
+pub mod super_square_face;
+pub mod variable_saw_face;
+pub mod variable_shape_face;
 
 // The six words of a result.
 fn result_of(answer: block::Answer, counts: block::Counts) -> [u32; 6]
@@ -32,5 +37,23 @@ fn phase_beside(flag: u32, bits: u32) -> f32
         -1.0
     } else {
         floats::from_bits(bits)
+    }
+}
+
+// The whole number of a word. Those from 2^31 up stand for negative numbers, all of which lie outside every range: -1 is taken for each.
+fn signed(word: u32) -> i32
+    ensures { λ r. ⌜ r ≡ signedOf word ⌝ }
+{
+    if word < 0x8000_0000 { word as i32 } else { -1 }
+}
+
+// The word of a whole number. An answered call leaves none that is negative.
+fn unsigned(number: i32) -> u32
+    ensures { λ r. ⌜ r ≡ unsignedOf number ⌝ }
+{
+    if number < 0 {
+        0xffff_ffff
+    } else {
+        number as u32
     }
 }

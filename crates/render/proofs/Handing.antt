@@ -1,5 +1,5 @@
 -- Which of its forms the text has, and the text handed over. No text is longer than the room that the library names. Assumes nothing.
-use mathlib.Core.Path.{_≡_, refl, ap, subst}
+use mathlib.Core.Path.{_≡_, refl, ap, subst, _∙_}
 use mathlib.Core.Bool.{Bool, true, false, _&&_, cond}
 use mathlib.Core.List.{List, [], _∷_, _++_}
 use Prim.Native.Nat.{ℕ, suc, _+_, _*_, _/_, _%_, _≤_, _<_}
@@ -17,7 +17,7 @@ use Rattle.render.specs.Bank.{initBank}
 use Rattle.render.specs.Lists.{recordsFrom, runOf, numbered, linesOf, textOf, Handed, written, countOf, left}
 use Rattle.render.specs.Private.{laid, Wrote}
 use Rattle.render.proofs.Digits.{decimal-long}
-use Rattle.render.proofs.Lists.{as-many, how-many}
+use Rattle.render.proofs.Lists.{as-many, how-many, newLines, lines-as-many}
 
 module _ (list : List ℕ) where
   pub long-list : 65536 < length list → textOf list ≡ 56 ∷ 10 ∷ []
@@ -92,3 +92,7 @@ text-long list = go (leb (length list) 65536 && eqb (length list % 64) 0) refl
 pub always-room : (list d : List ℕ) → 78848 ≤ length d → written (textOf list) d .number ≡ 0
 unfolding written
 always-room list d h = rw (le-leb (length (textOf list)) (length d) (omega (arith, text-long list)))
+
+-- the text of a list that is not refused as a whole has a line for each of its records
+pub line-for-each : (list : List ℕ) → length list ≤ 65536 → length list % 64 ≡ 0 → newLines (textOf list) ≡ length list / 64
+line-for-each list h o = rw (whole-list list h o) (lines-as-many (recordsFrom list 0 (length list / 64)) ∙ how-many list 0 (length list / 64))

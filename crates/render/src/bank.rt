@@ -32,7 +32,7 @@ pub struct Played {
     pub outcome: Outcome,
 }
 
-pub fn start() -> Bank
+pub(crate) fn start() -> Bank
     ensures { λ r. ⌜ r ≡ initBank ⌝ }
 {
     Bank {
@@ -45,7 +45,7 @@ pub fn start() -> Bank
 }
 
 // A malformed record changes nothing.
-pub fn play(bank: Bank, part: &[u8]) -> Played
+pub(crate) fn play(bank: Bank, part: &[u8]) -> Played
     ensures { λ r. ⌜ r ≡ recordPlayed bank (now (part .entry)) ⌝ }
 {
     let job = jobs::read(part);

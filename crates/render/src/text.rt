@@ -5,7 +5,7 @@ ghost use Rattle.render.specs.Line.{numberThen, lineOf};
 ghost use Rattle.render.specs.Private.{Wrote};
 use crate::bank::Outcome;
 
-pub fn append(out: &mut [u8], at: usize, text: &[u8]) -> usize
+pub(crate) fn append(out: &mut [u8], at: usize, text: &[u8]) -> usize
     requires { ⌜ at + length (now text) ≤ length (now out) ⌝ }
     ensures { λ r. ⌜ Wrote (now (out .entry)) at (now (text .entry)) r (now (out .exit)) ⌝ }
 {
@@ -29,7 +29,7 @@ fn number(out: &mut [u8], at: usize, n: u32, after: u8) -> usize
     e + 1
 }
 
-pub fn line(out: &mut [u8], at: usize, k: u32, o: Outcome) -> usize
+pub(crate) fn line(out: &mut [u8], at: usize, k: u32, o: Outcome) -> usize
     requires { ⌜ at + 77 ≤ length (now out) ⌝ }
     ensures { λ e. ⌜ Wrote (now (out .entry)) at (lineOf k o) e (now (out .exit)) × (e ≤ at + 77) ⌝ }
 {

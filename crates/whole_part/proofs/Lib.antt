@@ -1,3 +1,4 @@
 -- What the bits of a float say of its whole part, and what it is where no bits are asked.
 pub mod Digits
 pub mod Outside
+pub mod Tight

@@ -1,5 +1,7 @@
--- `navuloqu_super_square_init` meets its contract. Assumes nothing.
+-- `navuloqu_super_square_init` meets its contract: the words of the oscillator's own initial state. Assumes nothing.
+use mathlib.Core.Path.{_∙_, ap}
 use borrow.Author.Needs.{needs}
+use Rattle.navuloqu.specs.SuperSquare.{wordsOf}
 use Rattle.navuloqu.proofs.super_square_face.navuloqu_super_square_init.Statement.{
   statement,
 }
@@ -12,7 +14,7 @@ words-of-requires : tie.Need-words-of-requires
 words-of-requires c κs = search needs
 
 returns : tie.Need-returns
-returns c = cc
+returns c = c .words-of .ensures ∙ ap wordsOf (c .before .init .ensures)
 
 pub navuloqu-super-square-init-spec : {M : Type 1} → statement M
 navuloqu-super-square-init-spec = tie.close (tie.spec init-requires words-of-requires returns)

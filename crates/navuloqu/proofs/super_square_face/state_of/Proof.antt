@@ -42,7 +42,12 @@ from-bits-requires-4 c κs = search needs
 
 returns : tie.Need-returns
 unfolding stateOf
-returns c = cc
+returns c =
+    let b1 = c .before in
+    let b2 = b1 .before in
+    let b3 = b2 .before in
+    let b4 = b3 .before in
+    rw (b4 .phase-beside .ensures, b3 .from-bits .ensures, b2 .from-bits2 .ensures, b1 .from-bits3 .ensures, c .from-bits4 .ensures)
 
 pub state-of-spec : {M : Type 1} → statement M
 state-of-spec =

@@ -24,7 +24,13 @@ to-bits-requires-5 c κs = search needs
 
 returns : tie.Need-returns
 unfolding wordsOf
-returns c = cc
+returns c =
+    let b1 = c .before in
+    let b2 = b1 .before in
+    let b3 = b2 .before in
+    let b4 = b3 .before in
+    let b5 = b4 .before in
+    rw (b5 .to-bits .ensures, b4 .to-bits2 .ensures, b3 .to-bits3 .ensures, b2 .one-if .ensures, b1 .to-bits4 .ensures, c .to-bits5 .ensures)
 
 pub words-of-spec : {M : Type 1} → statement M
 words-of-spec =

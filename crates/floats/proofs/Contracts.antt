@@ -1,0 +1,5 @@
+-- The one law by which a contract that is an equation determines: two outcomes that satisfy it coincide. Assumes nothing.
+use mathlib.Core.Path.{_≡_, sym, _∙_}
+
+pub coincide : {A : Type 0} {x y z : A} → x ≡ z → y ≡ z → x ≡ y
+coincide p q = p ∙ sym q

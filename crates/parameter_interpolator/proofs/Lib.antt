@@ -1,0 +1,2 @@
+-- The contracts determine.
+pub mod Tight
