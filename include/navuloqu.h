@@ -105,7 +105,7 @@ void navuloqu_string_synth_init(uint32_t state[NAVULOQU_STRING_SYNTH_WORDS]);
 
 void navuloqu_string_synth_render(
     uint32_t state[NAVULOQU_STRING_SYNTH_WORDS], /* read; after answer 0 the state that the block left */
-    float frequency,                             /* in cycles per sample: 0.000001 to 0.5; to 1 the answer is 5 */
+    float frequency,                             /* in cycles per sample: 0.000001 to 0.5; above that, up to 1, the answer is 5 */
     const float *registration,                   /* 0 to 1 each: saw 8', square 8', saw 4', square 4', saw 2', square 2', saw 1' */
     size_t registration_count,                   /* 7, else the answer is 2 */
     float gain,                                  /* 0 to 4 */

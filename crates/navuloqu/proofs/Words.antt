@@ -24,13 +24,12 @@ signed-kept w z e = rw e (toZ-ofZ (go (ltb w 0x8000_0000) refl))
 pub signed-of-low : (w : ℕ) → w < 0x8000_0000 → toZ w32 w ≡ signedOf w
 signed-of-low w h = rw (toZ-pos w32 h, lt-ltb _ _ h)
 
-pub not-negative : (z : ℤ) → SFits w32 z → ltZ (toZ w32 (ofZ w32 z)) (pos 0) ≡ false → T (nonNeg (toZ w32 (ofZ w32 z)))
-not-negative z f h = go (toZ w32 (ofZ w32 z)) h
-  where
-    go : (z : ℤ) → ltZ z (pos 0) ≡ false → T (nonNeg z)
-    go (pos n) h = tt
-    go (negsuc n) h = absurd (true≢false h)
+-- what the code's cast to an unsigned number asks
+pub not-negative : (z : ℤ) → ltZ z (pos 0) ≡ false → T (nonNeg z)
+not-negative (pos n) h = tt
+not-negative (negsuc n) h = absurd (true≢false h)
 
+-- and what it gives, on either side of the test
 pub unsigned-of-negative : (z : ℤ) → SFits w32 z → ltZ (toZ w32 (ofZ w32 z)) (pos 0) ≡ true → 0xffff_ffff ≡ unsignedOf z
 unsigned-of-negative z f h = go z (rw (toZ-ofZ f) at h)
   where

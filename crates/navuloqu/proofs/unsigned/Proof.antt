@@ -1,11 +1,16 @@
 -- `navuloqu::unsigned` meets its contract. Assumes nothing.
+use mir.Syntax.{w32}
+use mir.Val.{toZ, ofZ}
 use mir.Facts.{toZ-ofZ, fits-natAbs}
 use Rattle.navuloqu.proofs.Words.{not-negative, unsigned-of-negative, unsigned-of-rest}
 use Rattle.navuloqu.proofs.unsigned.Statement.{statement}
 use Rattle.navuloqu.proofs.unsigned.Tie as tie
 
 cast-result : tie.Need-cast-result
-cast-result c = (not-negative _ (c .before .fits .number) (c .if1 .left), rw (toZ-ofZ (c .before .fits .number)) (fits-natAbs tt (c .before .fits .number)))
+cast-result c =
+    let a = c .before in
+    let fits = a .fits .number in
+    (not-negative (toZ w32 (ofZ w32 (a .args .number))) (c .if1 .left), rw (toZ-ofZ fits) (fits-natAbs tt fits))
 
 returns : tie.Need-returns
 returns c = unsigned-of-negative _ (c .before .fits .number) (c .if1 .taken)
