@@ -12,4 +12,5 @@ pub mod CallLaws
 pub mod Contracts
 pub mod Crossings
 pub mod CrossingsWrap
+pub mod CrossingsReset
 pub mod Tight

@@ -36,10 +36,6 @@ edge-crossable h =
     let z = turn-sum turn-1 (h .valid .slave .at) (h .slave .at) (omega (arith, h .valid .slave .under, h .slave .most)) in
     record { phase = record { n = z .n; at = z .at; most = z .top }; no-rises = refl; no-falls = refl }
 
--- a reset takes nothing off what the loop starts from
-pub cut-crossable : (value time : Float) (b e : Edge) → e ≡ cutEdge value time b → Crossable b → Crossable e
-cut-crossable value time b e h k = rw h (record { phase = k .phase; no-rises = k .no-rises; no-falls = k .no-falls })
-
 -- the edge of a reset, from its parts
 pub reset-edge-is : (s : State) (slaveFrequency time reached wrapped value : Float) (b e : Edge) (t : Bool) (r : Edge)
     → reached ≡ slaveAtReset (s .«slave_phase») slaveFrequency time → wrapped ≡ wrapOnce reached → value ≡ level wrapped → b ≡ edgeOf s slaveFrequency → e ≡ cutEdge value time b

@@ -17,13 +17,14 @@ use Rattle.block.specs.Steps.{allIn}
 use Rattle.block.proofs.RangeLaws.{frequency-step, step-frequency}
 use Rattle.block.proofs.Bools.{and-both, one-most}
 use Rattle.block.proofs.Crossings.{Crossable, Crossed, crossed-of}
+use Rattle.block.proofs.CrossingsReset.{cut-crossable, maybe-crossed}
 use Rattle.block.proofs.Plays.{Inside, Keeps}
 use Rattle.super_square.specs.declared.State.{State}
 use Rattle.super_square.specs.declared.sample.Sampled.{Sampled}
 use Rattle.super_square.specs.Sample.{level, crossed, edgeOf, finish, resetEdge, resetSample, plainSample, sampleOf, sampleAt}
 use Rattle.super_square.specs.Block.{rooms}
 use Rattle.super_square.specs.Private.{Valid, Ready}
-use Rattle.super_square.proofs.Edges.{crosses, half-narrow, edge-crossable, cut-crossable}
+use Rattle.super_square.proofs.Edges.{crosses, half-narrow, edge-crossable}
 
 -- what one sample does to a master's phase of a units with a step of b, and to all else
 pub record Law (s : State) (masterFrequency slaveFrequency : Float) (a b : ℕ) (t : Sampled) : Type 0 where
@@ -58,19 +59,14 @@ module _ (s : State) (masterFrequency slaveFrequency : Float) (h : Ready s maste
         balance = omega (arith, c .balance);
       }
 
-  -- with a reset the loop may not run, and then nothing is counted
-  reset-crossed : (r e : Edge) (t : Bool) → Crossable e → r ≡ cond t (crossed slaveFrequency e) e
-      → (r .rises ≤ 2) × (r .falls ≤ 1) × (r .rises + oneIf (e .high) ≡ r .falls + oneIf (r .high))
-  reset-crossed r e true k q = let c = all-crossed e k in rw q (c .rises, c .falls, c .balance)
-  reset-crossed r e false k q = rw q (omega (arith, k .no-rises), omega (arith, k .no-falls), omega (arith, k .no-rises, k .no-falls))
-
   reset-counts : (time : Float) → (let r = resetEdge s slaveFrequency time in
       (r .rises ≤ 2) × (r .falls ≤ 1) × (r .rises + oneIf (s .high) ≡ r .falls + oneIf (r .high)))
   unfolding resetEdge edgeOf
   reset-counts time =
       let reached = slaveAtReset (s .«slave_phase») slaveFrequency time in
       let e = cutEdge (level (wrapOnce reached)) time (edgeOf s slaveFrequency) in
-      reset-crossed (resetEdge s slaveFrequency time) e (transitionDuringReset (s .high) half32 reached) (cut-crossable (level (wrapOnce reached)) time (edgeOf s slaveFrequency) e refl (edge-crossable h)) refl
+      let k = cut-crossable (level (wrapOnce reached)) time (edgeOf s slaveFrequency) e refl (edge-crossable h) in
+      maybe-crossed (crossed slaveFrequency e) (resetEdge s slaveFrequency time) e (transitionDuringReset (s .high) half32 reached) k (all-crossed e k) refl
 
   reset-law : le one32 (s .«master_phase» ⊕ masterFrequency) ≡ true → Law s masterFrequency slaveFrequency (h .valid .master .n) (h .master .n) (resetSample s masterFrequency slaveFrequency (s .«master_phase» ⊕ masterFrequency ⊖ one32))
   unfolding resetSample finish

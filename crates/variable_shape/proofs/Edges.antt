@@ -9,7 +9,7 @@ use Rattle.floats.proofs.Turn.{turn-1, turn-sum}
 use Rattle.floats.proofs.Ranges.{Under}
 use Rattle.block.specs.declared.Edge.{Edge}
 use Rattle.block.specs.Sync.{slaveAtReset, wrapOnce, transitionDuringReset, cutEdge}
-use Rattle.block.proofs.Crossings.{Crosses, Crossable, Going}
+use Rattle.block.proofs.Crossings.{Crosses, Going}
 use Rattle.variable_shape.specs.declared.State.{State}
 use Rattle.variable_shape.specs.declared.steps.Steps.{Steps}
 use Rattle.variable_shape.specs.declared.waveform.Waveform.{Waveform}
@@ -41,10 +41,6 @@ unfolding edgeOf
 edge-crossing h =
     let z = turn-sum turn-1 (h .valid .slave .at) (h .slave .at) (omega (arith, h .valid .slave .under, h .slave .most)) in
     record { edge = record { phase = record { n = z .n; at = z .at; most = z .top }; no-rises = refl; no-falls = refl }; width = h .width }
-
--- a reset takes nothing off what the loop starts from
-pub cut-crossable : (value time : Float) (b e : Edge) → e ≡ cutEdge value time b → Crossable b → Crossable e
-cut-crossable value time b e h k = rw h (record { phase = k .phase; no-rises = k .no-rises; no-falls = k .no-falls })
 
 -- the edge of a reset, from its parts
 pub reset-edge-is : (s : State) (w : Waveform) (time reached wrapped value : Float) (b e : Edge) (t : Bool) (r : Edge)

@@ -25,6 +25,7 @@ use Rattle.block.proofs.InsideAt.{inside-at}
 use Rattle.block.proofs.Accounts.{OneSample}
 use Rattle.block.proofs.Crossings.{Crossable, Crossed, crossed-of}
 use Rattle.block.proofs.CrossingsWrap.{Wraps, crossings-wrap}
+use Rattle.block.proofs.CrossingsReset.{cut-crossable, maybe-crossed}
 use Rattle.variable_shape.specs.declared.State.{State}
 use Rattle.variable_shape.specs.declared.steps.Steps.{Steps}
 use Rattle.variable_shape.specs.declared.waveform.Waveform.{Waveform}
@@ -34,7 +35,7 @@ use Rattle.variable_shape.specs.Sample.{crossed, edgeOf, finish, resetEd
 use Rattle.variable_shape.specs.Block.{stateIn, rooms, countedPhase}
 use Rattle.variable_shape.specs.Private.{Valid, Ready}
 use Rattle.variable_shape.proofs.States.{modulation-in}
-use Rattle.variable_shape.proofs.Edges.{crosses, edge-crossing, cut-crossable}
+use Rattle.variable_shape.proofs.Edges.{crosses, edge-crossing}
 
 -- what one sample does
 pub record Law (sync : Bool) (s : State) (steps : Steps) (t : Sampled) : Type 0 where
@@ -126,12 +127,7 @@ module _ (s : State) (steps : Steps) (h : Ready s steps) where
           balance = omega (arith, c .balance);
         }
 
-  -- ---- with a reset the loop may not run, and then nothing is counted
-  reset-crossed : (r e : Edge) (t : Bool) → Crossable e → r ≡ cond t (crossed wave e) e
-      → (r .rises ≤ 2) × (r .falls ≤ 1) × (r .rises + oneIf (e .high) ≡ r .falls + oneIf (r .high))
-  reset-crossed r e true k q = let c = all-crossed e k in rw q (c .rises, c .falls, c .balance)
-  reset-crossed r e false k q = rw q (omega (arith, k .no-rises), omega (arith, k .no-falls), omega (arith, k .no-rises, k .no-falls))
-
+  -- ---- with a reset
   reset-counts : (time : Float) → (let r = resetEdge s wave time in
       (r .rises ≤ 2) × (r .falls ≤ 1) × (r .rises + oneIf (s .high) ≡ r .falls + oneIf (r .high)))
   unfolding resetEdge edgeOf waveformOf
@@ -139,7 +135,8 @@ module _ (s : State) (steps : Steps) (h : Ready s steps) where
       let reached = slaveAtReset (s .«slave_phase») (steps .«slave_frequency») time in
       let value = naiveOf wave (wrapOnce reached) in
       let e = cutEdge value time start in
-      reset-crossed (resetEdge s wave time) e (transitionDuringReset (s .high) (steps .pw) reached) (cut-crossable value time start e refl (edge-crossing h .edge)) refl
+      let k = cut-crossable value time start e refl (edge-crossing h .edge) in
+      maybe-crossed (crossed wave e) (resetEdge s wave time) e (transitionDuringReset (s .high) (steps .pw) reached) k (all-crossed e k) refl
 
   module _ (phaseOutput : Bool) where
     reset-law : le one32 (s .«master_phase» ⊕ steps .«master_frequency») ≡ true → Law true s steps (resetSample phaseOutput s steps (s .«master_phase» ⊕ steps .«master_frequency» ⊖ one32))

@@ -1,7 +1,8 @@
 -- `variable_shape::sample::reset_edge` meets its contract. Assumes nothing.
 use mathlib.Core.Path.{sym, subst}
 use Rattle.block.proofs.Crossings.{Crossable}
-use Rattle.variable_shape.proofs.Edges.{cut-crossable, reset-edge-is}
+use Rattle.block.proofs.CrossingsReset.{cut-crossable}
+use Rattle.variable_shape.proofs.Edges.{reset-edge-is}
 use borrow.Author.Needs.{needs}
 use Rattle.variable_shape.proofs.sample.reset_edge.Statement.{statement}
 use Rattle.variable_shape.proofs.sample.reset_edge.Tie as tie
