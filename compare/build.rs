@@ -9,6 +9,7 @@ use std::path::{Path, PathBuf};
 use std::{env, fs};
 
 const VARIABLE: &str = "NAVULOQU_SOURCE";
+const LIBRARY: &str = "NAVULOQU_LIBRARY";
 
 /// Where the source stands beside the repository, seen from this package.
 const USUAL_PLACE: &str = "../../shared/docs/src";
@@ -32,9 +33,22 @@ impl ParameterInterpolator<'_> {
 ";
 
 fn main() {
+    link_library();
     // cargo fails the build for a `cargo::error` line, and prints its text as the error.
     if let Err(message) = lay_out() {
         println!("cargo::error={message}");
+    }
+}
+
+/// `compare buffers` is there where the environment names the folder of libnavuloqu.a.
+fn link_library() {
+    println!("cargo::rustc-check-cfg=cfg(library)");
+    println!("cargo::rerun-if-env-changed={LIBRARY}");
+    if let Ok(folder) = env::var(LIBRARY) {
+        println!("cargo::rustc-cfg=library");
+        println!("cargo::rustc-link-search=native={folder}");
+        println!("cargo::rustc-link-lib=static=navuloqu");
+        println!("cargo::rerun-if-changed={folder}/libnavuloqu.a");
     }
 }
 

@@ -1,6 +1,8 @@
 //! The command line: makes records, makes the answers that the ported Rust gives to them, and
 //! finds the first difference between two lists of answers.
 
+#[cfg(library)]
+mod buffers;
 mod calls;
 mod difference;
 mod leaves;
@@ -60,6 +62,8 @@ fn run(words: &[&str]) -> Result<(), String> {
         ["first-difference", "lists", folder] => {
             tell(lists::folder::first_difference(Path::new(folder))?)
         }
+        #[cfg(library)]
+        ["buffers", count, seed] => tell(buffers::compare(number(count)?, number(seed)?)),
         _ => Err(USAGE.to_string()),
     }
 }
