@@ -1,4 +1,5 @@
 -- The laws of binary32 that the oscillators' proofs cite.
+pub mod Choices
 pub mod Rounding
 pub mod Values
 pub mod Order

@@ -1,16 +1,28 @@
 -- `floats::clamp` meets its contract: `at_least` is the first test, and the second is the definition's. Assumes nothing.
+use mathlib.Core.Path.{_≡_}
+use mathlib.Core.Bool.{true, false}
+use lib.Ieee.{Float, lt}
 use borrow.Author.Needs.{needs}
+use Rattle.floats.specs.Helpers.{atLeast, clampOf}
+use Rattle.floats.proofs.Choices.{chosen, other}
 use Rattle.floats.proofs.clamp.Statement.{statement}
 use Rattle.floats.proofs.clamp.Tie as tie
+
+module _ (x low high raised : Float) (at : raised ≡ atLeast x low) where
+  lowered : lt high raised ≡ true → high ≡ clampOf x low high
+  lowered h = rw (← at) (chosen _ _ _ h)
+
+  kept : lt high raised ≡ false → raised ≡ clampOf x low high
+  kept h = rw (← at) (other _ _ _ h)
 
 at-least-requires : tie.Need-at-least-requires
 at-least-requires c κs = search needs
 
 returns : tie.Need-returns
-returns c = rw (← c .before .at-least .ensures, c .if1 .taken)
+returns c = lowered _ _ _ _ (c .before .at-least .ensures) (c .if1 .taken)
 
 returns-2 : tie.Need-returns-2
-returns-2 c = rw (← c .before .at-least .ensures, c .if1 .left)
+returns-2 c = kept _ _ _ _ (c .before .at-least .ensures) (c .if1 .left)
 
 pub clamp-spec : {M : Type 1} → statement M
 clamp-spec = tie.close (tie.spec at-least-requires returns returns-2)

@@ -1,12 +1,13 @@
 -- `floats::min` meets its contract: each way of the test is the definition's. Assumes nothing.
+use Rattle.floats.proofs.Choices.{chosen, other}
 use Rattle.floats.proofs.min.Statement.{statement}
 use Rattle.floats.proofs.min.Tie as tie
 
 returns : tie.Need-returns
-returns c = rw (c .if1 .taken)
+returns c = chosen _ _ _ (c .if1 .taken)
 
 returns-2 : tie.Need-returns-2
-returns-2 c = rw (c .if1 .left)
+returns-2 c = other _ _ _ (c .if1 .left)
 
 pub min-spec : {M : Type 1} → statement M
 min-spec = tie.close (tie.spec returns returns-2)

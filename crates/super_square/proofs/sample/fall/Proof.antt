@@ -1,4 +1,5 @@
 -- `super_square::sample::fall` meets its contract. Assumes nothing.
+use mathlib.Core.Path.{refl}
 use Rattle.super_square.specs.Sample.{fallOf}
 use borrow.Author.Needs.{needs}
 use Rattle.super_square.proofs.sample.fall.Statement.{statement}
@@ -15,7 +16,7 @@ add-t9 c = search needs
 
 returns : tie.Need-returns
 unfolding fallOf
-returns c = cc
+returns c = rw (c .before .before .before .before .this-blep-sample .ensures, c .before .before .next-blep-sample .ensures) refl
 
 pub fall-spec : {M : Type 1} → statement M
 fall-spec = tie.close (tie.spec this-blep-sample-requires next-blep-sample-requires add-t9 returns)

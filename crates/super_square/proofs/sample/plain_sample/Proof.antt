@@ -1,5 +1,5 @@
 -- `super_square::sample::plain_sample` meets its contract. Assumes nothing.
-use mathlib.Core.Path.{sym, subst}
+use mathlib.Core.Path.{refl, sym, subst}
 use Rattle.block.proofs.Crossings.{Crossable}
 use Rattle.super_square.specs.Sample.{plainSample}
 use borrow.Author.Needs.{needs}
@@ -17,7 +17,7 @@ finish-requires c κs = search needs
 
 returns : tie.Need-returns
 unfolding plainSample
-returns c = cc
+returns c = rw (c .finish .ensures, c .before .cross .ensures, c .before .before .edge .ensures) refl
 
 pub plain-sample-spec : {M : Type 1} → statement M
 plain-sample-spec = tie.close (tie.spec edge-requires cross-requires finish-requires returns)

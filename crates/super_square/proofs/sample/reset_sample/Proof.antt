@@ -1,4 +1,5 @@
 -- `super_square::sample::reset_sample` meets its contract. Assumes nothing.
+use mathlib.Core.Path.{refl}
 use Rattle.super_square.specs.Sample.{resetSample}
 use borrow.Author.Needs.{needs}
 use Rattle.super_square.proofs.sample.reset_sample.Statement.{statement}
@@ -15,7 +16,7 @@ finish-requires c κs = search needs
 
 returns : tie.Need-returns
 unfolding resetSample
-returns c = cc
+returns c = rw (c .finish .ensures, c .before .one-if .ensures, c .before .before .reset-edge .ensures) refl
 
 pub reset-sample-spec : {M : Type 1} → statement M
 reset-sample-spec =

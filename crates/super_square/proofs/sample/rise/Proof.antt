@@ -1,4 +1,5 @@
 -- `super_square::sample::rise` meets its contract. Assumes nothing.
+use mathlib.Core.Path.{refl}
 use Rattle.super_square.specs.Sample.{riseOf}
 use borrow.Author.Needs.{needs}
 use Rattle.super_square.proofs.sample.rise.Statement.{statement}
@@ -15,7 +16,7 @@ add-t8 c = search needs
 
 returns : tie.Need-returns
 unfolding riseOf
-returns c = cc
+returns c = rw (c .before .before .before .before .this-blep-sample .ensures, c .before .before .next-blep-sample .ensures) refl
 
 pub rise-spec : {M : Type 1} → statement M
 rise-spec = tie.close (tie.spec this-blep-sample-requires next-blep-sample-requires add-t8 returns)
