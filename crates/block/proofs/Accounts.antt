@@ -15,14 +15,14 @@ use Rattle.floats.proofs.At.{At, at-units, at-unique}
 use Rattle.floats.proofs.Integers.{within→abs}
 use Rattle.parameter_interpolator.specs.declared.ParameterInterpolator.{ParameterInterpolator}
 use Rattle.block.specs.declared.Counts.{Counts}
-use Rattle.block.specs.declared.Room.{Room}
-use Rattle.block.specs.declared.Found.the-variants.{Nowhere}
+use Rattle.rooms.specs.declared.Room.{Room}
+use Rattle.rooms.specs.declared.Found.the-variants.{Nowhere}
 use Rattle.block.specs.Counting.{plus}
-use Rattle.block.specs.Steps.{moved, values, stepsOf, firstOutside}
+use Rattle.rooms.specs.Steps.{moved, values, stepsOf, firstOutside}
 use Rattle.block.specs.Play.{Sample, Heard, play}
 use Rattle.block.specs.Calls.{Call}
 use Rattle.block.specs.Account.{sumUnits, Accounted, column, chain}
-use Rattle.block.proofs.Padding.{moved-length}
+use Rattle.rooms.proofs.Padding.{moved-length}
 use Rattle.block.proofs.Plays.{Inside, Keeps, nowhere-first}
 
 -- the values of a list of steps, each not below zero, come to n units

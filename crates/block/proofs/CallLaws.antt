@@ -13,11 +13,11 @@ use Rattle.floats.specs.F32.{zero32}
 use Rattle.floats.proofs.At.{At}
 use Rattle.parameter_interpolator.specs.declared.ParameterInterpolator.{ParameterInterpolator}
 use Rattle.block.specs.declared.Counts.{Counts}
-use Rattle.block.specs.declared.Room.{Room}
-use Rattle.block.specs.declared.Found.{Found}
-use Rattle.block.specs.declared.Found.the-variants.{Outside, Nowhere}
+use Rattle.rooms.specs.declared.Room.{Room}
+use Rattle.rooms.specs.declared.Found.{Found}
+use Rattle.rooms.specs.declared.Found.the-variants.{Outside, Nowhere}
 use Rattle.block.specs.Counting.{noCounts}
-use Rattle.block.specs.Steps.{stepsOf, firstOutside}
+use Rattle.rooms.specs.Steps.{stepsOf, firstOutside}
 use Rattle.block.specs.Play.{Sample, play}
 use Rattle.block.specs.Calls.{Call, refusal, done, run}
 use Rattle.block.specs.Account.{column, usedBy, Balanced}

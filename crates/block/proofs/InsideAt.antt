@@ -7,10 +7,10 @@ use native.Mathlib.Omega.{arith}
 use lib.Dec.{T}
 use lib.ListN.{length, getD}
 use lib.Ieee.{Float, binary32, fits}
-use Rattle.block.specs.declared.Room.{Room}
-use Rattle.block.specs.Rooms.{inRoom}
-use Rattle.block.specs.Steps.{allIn}
-use Rattle.block.proofs.Bools.{and-both}
+use Rattle.rooms.specs.declared.Room.{Room}
+use Rattle.rooms.specs.Rooms.{inRoom}
+use Rattle.rooms.specs.Steps.{allIn}
+use Rattle.ranges.proofs.Bools.{and-both}
 use Rattle.block.proofs.Plays.{Inside}
 
 pub record Stands (r : Room) (x : Float) : Type 0 where

@@ -1,21 +1,25 @@
 -- What a block counts at most, and the balance of its crossings, from the same of one sample. For any oscillator. Assumes nothing.
 use mathlib.Core.Path.{_≡_, _∙_, subst}
-use mathlib.Core.Bool.{Bool}
+use mathlib.Core.Bool.{Bool, true, false}
 use mathlib.Core.List.{List, [], _∷_}
-use Prim.Native.Nat.{ℕ, zero, suc, _+_}
+use Prim.Native.Nat.{ℕ, zero, suc, _+_, _≤_}
 use native.Mathlib.Omega.{arith}
 use lib.ListN.{length}
 use lib.Ieee.{Float}
 use Rattle.parameter_interpolator.specs.declared.ParameterInterpolator.{ParameterInterpolator}
 use Rattle.block.specs.declared.Counts.{Counts}
-use Rattle.block.specs.declared.Room.{Room}
-use Rattle.block.specs.declared.Found.the-variants.{Nowhere}
-use Rattle.block.specs.Counting.{plus}
-use Rattle.block.specs.Steps.{moved, values, stepsOf, firstOutside}
+use Rattle.rooms.specs.declared.Room.{Room}
+use Rattle.rooms.specs.declared.Found.the-variants.{Nowhere}
+use Rattle.block.specs.Counting.{plus, oneIf}
+use Rattle.rooms.specs.Steps.{moved, values, stepsOf, firstOutside}
 use Rattle.block.specs.Play.{Sample, play}
 use Rattle.block.specs.Account.{Balanced}
-use Rattle.block.proofs.Padding.{moved-length}
+use Rattle.rooms.proofs.Padding.{moved-length}
 use Rattle.block.proofs.Plays.{Few, few-more, Inside, Keeps, nowhere-first}
+
+pub one-most : (b : Bool) → oneIf b ≤ 1
+one-most true = omega arith
+one-most false = omega arith
 
 module _ {S : Type 0} (make : S → List Float → Float → Sample S) (rooms : List Room) (Ok : S → Type 0) (keeps : Keeps make rooms Ok) where
   -- m samples more than the i that c was counted in

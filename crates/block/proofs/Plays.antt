@@ -13,13 +13,13 @@ use lib.Ieee.{Float, nan, binary32, fits}
 use lib.Ieee.Fits.{add-fits}
 use Rattle.parameter_interpolator.specs.declared.ParameterInterpolator.{ParameterInterpolator}
 use Rattle.block.specs.declared.Counts.{Counts}
-use Rattle.block.specs.declared.Room.{Room}
-use Rattle.block.specs.declared.Found.{Found}
-use Rattle.block.specs.declared.Found.the-variants.{Outside, Nowhere}
+use Rattle.rooms.specs.declared.Room.{Room}
+use Rattle.rooms.specs.declared.Found.{Found}
+use Rattle.rooms.specs.declared.Found.the-variants.{Outside, Nowhere}
 use Rattle.block.specs.Counting.{noCounts, plus, wrapped}
-use Rattle.block.specs.Steps.{moved, values, stepsOf, allIn, later, firstOutside}
+use Rattle.rooms.specs.Steps.{moved, values, stepsOf, allIn, later, firstOutside}
 use Rattle.block.specs.Play.{Sample, Heard, play}
-use Rattle.block.proofs.Padding.{moved-length, values-length}
+use Rattle.rooms.proofs.Padding.{moved-length, values-length}
 
 -- at most n samples' worth of counts
 pub record Few (n : ℕ) (c : Counts) : Type 0 where

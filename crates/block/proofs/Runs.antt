@@ -5,11 +5,11 @@ use Prim.Native.Nat.{ℕ}
 use lib.ListN.{length}
 use lib.Ieee.{Float}
 use Rattle.parameter_interpolator.specs.declared.ParameterInterpolator.{ParameterInterpolator}
-use Rattle.block.specs.declared.Room.{Room}
-use Rattle.block.specs.declared.Found.{Found}
-use Rattle.block.specs.declared.Found.the-variants.{Outside, Nowhere}
+use Rattle.rooms.specs.declared.Room.{Room}
+use Rattle.rooms.specs.declared.Found.{Found}
+use Rattle.rooms.specs.declared.Found.the-variants.{Outside, Nowhere}
 use Rattle.block.specs.Counting.{noCounts}
-use Rattle.block.specs.Steps.{stepsOf, firstOutside}
+use Rattle.rooms.specs.Steps.{stepsOf, firstOutside}
 use Rattle.block.specs.Play.{Sample, play}
 use Rattle.block.specs.Calls.{refusal, done, driftOr, run}
 

@@ -12,7 +12,7 @@ use Rattle.floats.specs.Units.{units}
 use Rattle.parameter_interpolator.specs.declared.ParameterInterpolator.{ParameterInterpolator}
 use Rattle.block.specs.declared.Counts.{Counts}
 use Rattle.block.specs.Counting.{oneIf}
-use Rattle.block.specs.Steps.{stepsOf}
+use Rattle.rooms.specs.Steps.{stepsOf}
 use Rattle.block.specs.Calls.{Call}
 
 -- the exact sum of floats, in units of 2 ^ -149

@@ -24,7 +24,7 @@ pub(crate) fn put_variable_shape(
     let sync = record::sync_at(input, from + 1);
     let phase_output = record::phase_output_at(input, from + 1);
     let mut result = [0u32; 6];
-    navuloqu::variable_shape_face::navuloqu_variable_shape_render(
+    navuloqu::variable_shape::navuloqu_variable_shape_render(
         &mut words,
         master_frequency,
         frequency,
@@ -56,7 +56,7 @@ pub(crate) fn put_variable_saw(
     let pw = record::float_at(input, from + 16);
     let waveshape = record::float_at(input, from + 20);
     let mut result = [0u32; 6];
-    navuloqu::variable_saw_face::navuloqu_variable_saw_render(
+    navuloqu::variable_saw::navuloqu_variable_saw_render(
         &mut words,
         frequency,
         pw,
@@ -83,7 +83,7 @@ pub(crate) fn put_super_square(
     let frequency = record::float_at(input, from + 8);
     let shape = record::float_at(input, from + 16);
     let mut result = [0u32; 6];
-    navuloqu::super_square_face::navuloqu_super_square_render(
+    navuloqu::super_square::navuloqu_super_square_render(
         &mut words,
         frequency,
         shape,
@@ -109,7 +109,7 @@ pub(crate) fn put_nes_triangle(
     let frequency = record::float_at(input, from + 8);
     let num_bits = record::word_at(input, from + 4);
     let mut result = [0u32; 6];
-    navuloqu::nes_triangle_face::navuloqu_nes_triangle_render(
+    navuloqu::nes_triangle::navuloqu_nes_triangle_render(
         &mut words,
         frequency,
         num_bits,
@@ -137,7 +137,7 @@ pub(crate) fn put_string_synth(
     let entries = record::entries_at(input, from + 56);
     let gain = record::float_at(input, from + 12);
     let mut result = [0u32; 6];
-    navuloqu::string_synth_face::navuloqu_string_synth_render(
+    navuloqu::string_synth::navuloqu_string_synth_render(
         &mut words,
         frequency,
         handed_over(&registration, entries),

@@ -9,27 +9,27 @@ use lib.ListN.{length}
 use lib.Ieee.{Float}
 use Rattle.parameter_interpolator.specs.declared.ParameterInterpolator.{ParameterInterpolator}
 use Rattle.block.specs.Counting.{noCounts}
-use Rattle.block.specs.Steps.{stepsOf}
+use Rattle.rooms.specs.Steps.{stepsOf}
 use Rattle.block.specs.Play.{Sample, play}
 use Rattle.block.specs.Calls.{Call, done}
 use Rattle.block.proofs.CallLaws.{run-answered, not-done}
-use Rattle.super_square.specs.declared.State as SuperSquareState
+use Rattle.states.specs.declared.super_square.State as SuperSquareState
 use Rattle.super_square.specs.Sample as SuperSquareSample
 use Rattle.super_square.specs.Block as SuperSquare
 use Rattle.super_square.proofs.Phase as SuperSquarePhase
-use Rattle.variable_shape.specs.declared.State as ShapeState
+use Rattle.states.specs.declared.variable_shape.State as ShapeState
 use Rattle.variable_shape.specs.Sample as ShapeSample
 use Rattle.variable_shape.specs.Block as Shape
 use Rattle.variable_shape.proofs.Phase as ShapePhase
-use Rattle.variable_saw.specs.declared.State as SawState
+use Rattle.states.specs.declared.variable_saw.State as SawState
 use Rattle.variable_saw.specs.Sample as SawSample
 use Rattle.variable_saw.specs.Block as Saw
 use Rattle.variable_saw.proofs.Phase as SawPhase
-use Rattle.nes_triangle.specs.declared.State as NesState
+use Rattle.states.specs.declared.nes_triangle.State as NesState
 use Rattle.nes_triangle.specs.Sample as NesSample
 use Rattle.nes_triangle.specs.Block as Nes
 use Rattle.nes_triangle.proofs.Phase as NesPhase
-use Rattle.string_synth.specs.declared.State as StringState
+use Rattle.states.specs.declared.string_synth.State as StringState
 use Rattle.string_synth.specs.Sample as StringSample
 use Rattle.string_synth.specs.Block as String
 use Rattle.string_synth.proofs.Phase as StringPhase

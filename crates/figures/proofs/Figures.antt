@@ -1,7 +1,7 @@
 -- Every figure of the table is met, by computation. Assumes nothing.
 use mathlib.Core.Path.{_≡_, refl}
 use lib.Ieee.{ofBits, toBits, ofInt, neg, add, sub, mul, div, lt, le, toUnsigned}
-use Rattle.block.specs.Crossings.{turns}
+use Rattle.edges.specs.Crossings.{turns}
 use Rattle.super_square.specs.Sample.{riseOf, fallOf, edgeOf, finish, resetEdge, resetSample, plainSample, sampleOf}
 use Rattle.variable_saw.specs.Sample as Saw
 use Rattle.variable_shape.specs.Sample as Shape

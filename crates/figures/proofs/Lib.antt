@@ -1,2 +1,3 @@
--- The claim over the table of figures.
+-- The claims over the table of figures, and of the Drift figure.
 pub mod Figures
+pub mod Drift

@@ -10,11 +10,11 @@ use Rattle.polyblep.specs.Polyblep.{thisBlepSample, nextBlepSample, nextIntegra
 use Rattle.parameter_interpolator.specs.Interpolator.{newInterpolator, nextInterpolator}
 use Rattle.parameter_interpolator.specs.declared.ParameterInterpolator.{ParameterInterpolator}
 use Rattle.whole_part.specs.WholePart as WholePart
-use Rattle.block.specs.Sync.{resetTime}
-use Rattle.super_square.specs.declared.State.{State as SuperSquare}
+use Rattle.edges.specs.Sync.{resetTime}
+use Rattle.states.specs.declared.super_square.State.{State as SuperSquare}
 use Rattle.super_square.specs.Sample.{sampleOf}
 use Rattle.super_square.specs.Block.{factorOf}
-use Rattle.block.specs.Targets.{clampedWidth}
+use Rattle.ranges.specs.Targets.{clampedWidth}
 use Rattle.variable_saw.specs.Figures as Saw
 use Rattle.variable_shape.specs.Figures as Shape
 

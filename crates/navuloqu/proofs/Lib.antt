@@ -1,5 +1,2 @@
--- The laws of the face.
-pub mod Faces
-pub mod Words
-pub mod MasterPhase
+-- Two outcomes of an exported function coincide.
 pub mod Tight

@@ -5,13 +5,13 @@ use mathlib.Core.List.{List}
 use Prim.Native.Nat.{ℕ}
 use lib.Ieee.{Float}
 use Rattle.floats.proofs.Contracts.{coincide}
-use Rattle.navuloqu.specs.Face.{Face}
-use Rattle.navuloqu.specs.VariableShape as shape
-use Rattle.navuloqu.specs.VariableShape.{SetFace}
-use Rattle.navuloqu.specs.VariableSaw as saw
-use Rattle.navuloqu.specs.SuperSquare as square
-use Rattle.navuloqu.specs.NesTriangle as nes
-use Rattle.navuloqu.specs.StringSynth as string
+use Rattle.words.specs.Face.{Face}
+use Rattle.variable_shape_face.specs.Words as shape
+use Rattle.variable_shape_face.specs.Words.{SetFace}
+use Rattle.variable_saw_face.specs.Words as saw
+use Rattle.super_square_face.specs.Words as square
+use Rattle.nes_triangle_face.specs.Words as nes
+use Rattle.string_synth_face.specs.Words as string
 
 -- `init`: the words that it leaves
 pub variable-shape-init : (v w : List ℕ) → v ≡ shape.initWords → w ≡ shape.initWords → v ≡ w

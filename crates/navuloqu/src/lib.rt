@@ -1,59 +1,7 @@
 // The face for other languages: one function for `init` and one for `render` of each oscillator, over lent arrays of 32-bit words.
-// include/navuloqu.h declares them for C.
-ghost use mathlib.Core.Path.{_≡_};
-ghost use mathlib.Core.Bool.{cond};
-ghost use mathlib.Core.List.{[], _∷_};
-ghost use lib.Dec.{ltb};
-ghost use lib.Ieee.{neg};
-ghost use Rattle.floats.specs.F32.{f32, one32};
-ghost use Rattle.block.specs.Answers.{numberOf, indexOf};
-ghost use Rattle.navuloqu.specs.Face.{signedOf, unsignedOf};
-
-pub mod nes_triangle_face;
-pub mod string_synth_face;
-pub mod super_square_face;
-pub mod variable_saw_face;
-pub mod variable_shape_face;
-
-// The six words of a result.
-fn result_of(answer: block::Answer, counts: block::Counts) -> [u32; 6]
-    ensures { λ r. ⌜ r ≡ numberOf answer ∷ indexOf answer ∷ counts .cycles ∷ counts .rises ∷ counts .falls ∷ counts .cuts ∷ [] ⌝ }
-{
-    [
-        block::number(answer),
-        block::index(answer),
-        counts.cycles,
-        counts.rises,
-        counts.falls,
-        counts.cuts,
-    ]
-}
-
-// The phase of these bits, or one outside every range where the word for a bool is neither 0 nor 1.
-fn phase_beside(flag: u32, bits: u32) -> f32
-    ensures { λ r. ⌜ r ≡ cond (ltb 1 flag) (neg one32) (f32 bits) ⌝ }
-{
-    if flag > 1 {
-        -1.0
-    } else {
-        floats::from_bits(bits)
-    }
-}
-
-// The whole number of a word. Those from 2^31 up stand for negative numbers, all of which lie outside every range: -1 is taken for each.
-fn signed(word: u32) -> i32
-    ensures { λ r. ⌜ r ≡ signedOf word ⌝ }
-{
-    if word < 0x8000_0000 { word as i32 } else { -1 }
-}
-
-// The word of a whole number. An answered call leaves none that is negative.
-fn unsigned(number: i32) -> u32
-    ensures { λ r. ⌜ r ≡ unsignedOf number ⌝ }
-{
-    if number < 0 {
-        0xffff_ffff
-    } else {
-        number as u32
-    }
-}
+// include/navuloqu.h declares them for C. Each is its oscillator's own face under a name of the archive, which exports this crate's functions alone.
+pub mod nes_triangle;
+pub mod string_synth;
+pub mod super_square;
+pub mod variable_saw;
+pub mod variable_shape;

@@ -13,16 +13,16 @@ use Rattle.floats.specs.Helpers.{minOf}
 use Rattle.parameter_interpolator.specs.declared.ParameterInterpolator.{ParameterInterpolator}
 use Rattle.parameter_interpolator.specs.Interpolator.{newInterpolator}
 use Rattle.block.specs.declared.Answer.the-variants.{LongBlock, BadState, BadParam, Drift}
-use Rattle.block.specs.declared.Found.{Found}
-use Rattle.block.specs.declared.Found.the-variants.{Outside, Nowhere}
-use Rattle.block.specs.Steps.{stepsOf, firstOutside}
-use Rattle.block.specs.Ranges.{parameterFrequencyIn}
+use Rattle.rooms.specs.declared.Found.{Found}
+use Rattle.rooms.specs.declared.Found.the-variants.{Outside, Nowhere}
+use Rattle.rooms.specs.Steps.{stepsOf, firstOutside}
+use Rattle.ranges.specs.Ranges.{parameterFrequencyIn}
 use Rattle.block.specs.Calls.{run}
-use Rattle.block.proofs.RangeLaws.{phase-under, under-phase}
-use Rattle.block.proofs.Bools.{and-both}
-use Rattle.block.proofs.Padding.{unused, padded}
+use Rattle.rooms.proofs.RangeLaws.{phase-under, under-phase}
+use Rattle.ranges.proofs.Bools.{and-both}
+use Rattle.rooms.proofs.Padding.{unused, padded}
 use Rattle.block.proofs.Runs.{run-drift, run-done}
-use Rattle.nes_triangle.specs.declared.State.{State}
+use Rattle.states.specs.declared.nes_triangle.State.{State}
 use Rattle.nes_triangle.specs.declared.Rendered.{Rendered}
 use Rattle.nes_triangle.specs.Depth.{bitsIn, testedBits}
 use Rattle.nes_triangle.specs.Sample.{sampleAt}

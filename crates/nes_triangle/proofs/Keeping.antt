@@ -9,11 +9,12 @@ use Rattle.floats.specs.F32.{zero32}
 use Rattle.floats.proofs.Ticks.{tick, cycle}
 use Rattle.floats.proofs.Turn.{Step}
 use Rattle.floats.proofs.Ranges.{Positive}
-use Rattle.block.specs.Steps.{allIn}
-use Rattle.block.proofs.RangeLaws.{frequency-step, step-frequency}
-use Rattle.block.proofs.Bools.{and-both, one-most}
+use Rattle.rooms.specs.Steps.{allIn}
+use Rattle.rooms.proofs.RangeLaws.{frequency-step, step-frequency}
+use Rattle.ranges.proofs.Bools.{and-both}
+use Rattle.block.proofs.Limits.{one-most}
 use Rattle.block.proofs.Plays.{Inside, Keeps}
-use Rattle.nes_triangle.specs.declared.State.{State}
+use Rattle.states.specs.declared.nes_triangle.State.{State}
 use Rattle.nes_triangle.specs.declared.depth.Depth.{Depth}
 use Rattle.nes_triangle.specs.declared.sample.Sampled.{Sampled}
 use Rattle.nes_triangle.specs.Depth.{depthOf}

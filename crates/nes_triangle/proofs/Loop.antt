@@ -9,11 +9,11 @@ use Rattle.parameter_interpolator.specs.Interpolator.{nextInterpolator}
 use Rattle.block.specs.declared.Answer.the-variants.{Done}
 use Rattle.block.specs.declared.Counts.{Counts}
 use Rattle.block.specs.Counting.{noCounts, plus, wrapped}
-use Rattle.block.specs.Steps.{moved, values}
+use Rattle.rooms.specs.Steps.{moved, values}
 use Rattle.block.specs.Play.{Sample, Heard}
 use Rattle.block.specs.Calls.{done}
 use Rattle.block.proofs.Plays.{Playing, playing-start, playing-inside, playing-counts, playing-more, playing-end}
-use Rattle.nes_triangle.specs.declared.State.{State}
+use Rattle.states.specs.declared.nes_triangle.State.{State}
 use Rattle.nes_triangle.specs.declared.depth.Depth.{Depth}
 use Rattle.nes_triangle.specs.declared.sample.Sampled.{Sampled}
 use Rattle.nes_triangle.specs.Depth.{depthOf}

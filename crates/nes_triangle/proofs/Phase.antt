@@ -14,18 +14,19 @@ use Rattle.floats.specs.F32.{zero32}
 use Rattle.floats.proofs.At.{At}
 use Rattle.floats.proofs.Ticks.{tick, cycle}
 use Rattle.floats.proofs.Ranges.{Under}
-use Rattle.block.specs.Ranges.{phaseIn}
+use Rattle.ranges.specs.Ranges.{phaseIn}
 use Rattle.block.specs.Account.{Accounted, chain, usedBy}
 use Rattle.block.specs.Calls.{Call, refusal, run}
-use Rattle.block.proofs.Bools.{cond-both, either-way}
+use Rattle.ranges.proofs.Bools.{cond-both, either-way}
 use Rattle.block.proofs.Plays.{Few, few-none, Inside}
-use Rattle.block.proofs.RangeLaws.{phase-under}
+use Rattle.rooms.proofs.RangeLaws.{phase-under}
 use Rattle.block.proofs.Accounts.{OneSample, steps-one, steps-accounted, CallLaw, Untouched, call-accounts, chain-accounts}
 use Rattle.block.proofs.CallLaws.{few-most, not-done, refusal-untouched, refusal-law, run-law, run-few}
-use Rattle.nes_triangle.specs.declared.State.{State}
+use Rattle.states.specs.declared.nes_triangle.State.{State}
 use Rattle.nes_triangle.specs.Depth.{testedBits}
 use Rattle.nes_triangle.specs.Sample.{sampleAt}
-use Rattle.nes_triangle.specs.Block.{newState, initState, stateIn, parametersIn, interpolators, rooms, renderOf, Arguments, callOf, usedOf, Phase32}
+use Rattle.states.specs.NesTriangle.{newState, initState}
+use Rattle.nes_triangle.specs.Block.{stateIn, parametersIn, interpolators, rooms, renderOf, Arguments, callOf, usedOf, Phase32}
 use Rattle.nes_triangle.specs.Private.{Valid, BitsIn}
 use Rattle.nes_triangle.proofs.Keeping.{law-of, keeps}
 use Rattle.nes_triangle.proofs.Calls.{bits-of, bits-in-of, valid-of, of-valid}

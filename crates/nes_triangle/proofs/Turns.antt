@@ -21,8 +21,8 @@ use Rattle.floats.proofs.PowerOfTwo.{mul-pow, unsigned-at, whole-pow}
 use Rattle.floats.proofs.WholeNumbers.{whole-at}
 use Rattle.whole_part.specs.WholePart.{wholePart}
 use Rattle.block.specs.Counting.{oneIf}
-use Rattle.block.proofs.Bools.{and-both}
-use Rattle.nes_triangle.specs.declared.State.{State}
+use Rattle.ranges.proofs.Bools.{and-both}
+use Rattle.states.specs.declared.nes_triangle.State.{State}
 use Rattle.nes_triangle.specs.declared.depth.Depth.{Depth}
 use Rattle.nes_triangle.specs.declared.sample.Turn.{Turn}
 use Rattle.nes_triangle.specs.Depth.{wholeF32, depthOf}

@@ -10,24 +10,16 @@ use Rattle.floats.specs.F32.{f32, zero32, maxFrequency}
 use Rattle.floats.specs.Helpers.{minOf}
 use Rattle.parameter_interpolator.specs.declared.ParameterInterpolator.{ParameterInterpolator}
 use Rattle.parameter_interpolator.specs.Interpolator.{newInterpolator}
-use Rattle.block.specs.declared.Room.{Room}
-use Rattle.block.specs.declared.Room.the-variants.{Frequency}
+use Rattle.rooms.specs.declared.Room.{Room}
+use Rattle.rooms.specs.declared.Room.the-variants.{Frequency}
 use Rattle.block.specs.Answers.{numberOf, indexOf}
-use Rattle.block.specs.Ranges.{phaseIn, frequencyIn, parameterFrequencyIn}
+use Rattle.ranges.specs.Ranges.{phaseIn, frequencyIn, parameterFrequencyIn}
 use Rattle.block.specs.Calls.{Call, refusal, run}
 use Rattle.block.specs.Account.{usedBy}
-use Rattle.nes_triangle.specs.declared.State.{State}
+use Rattle.states.specs.declared.nes_triangle.State.{State}
 use Rattle.nes_triangle.specs.declared.Rendered.{Rendered}
 use Rattle.nes_triangle.specs.Depth.{bitsIn, testedBits}
 use Rattle.nes_triangle.specs.Sample.{sampleAt}
-
--- the source's `Default`
-abbrev pub newState : State
-newState = record { phase = zero32; «next_sample» = zero32; step = pos 0; ascending = false; frequency = zero32 }
-
--- lines 25 to 31; the frequency is 0.001
-abbrev pub initState : State
-initState = record { phase = zero32; «next_sample» = zero32; step = pos 0; ascending = true; frequency = f32 0x3a83_126f }
 
 -- 01, "State": `step` 0 to 2^bits - 1
 abbrev pub stepIn : ℕ → ℤ → Bool

@@ -11,13 +11,13 @@ use Rattle.floats.proofs.Ticks.{tick, cycle}
 use Rattle.floats.proofs.Ranges.{Under, Positive}
 use Rattle.parameter_interpolator.specs.declared.ParameterInterpolator.{ParameterInterpolator}
 use Rattle.block.specs.declared.Answer.{Answer}
-use Rattle.block.specs.declared.Found.the-variants.{Nowhere}
+use Rattle.rooms.specs.declared.Found.the-variants.{Nowhere}
 use Rattle.block.specs.Counting.{noCounts}
-use Rattle.block.specs.Ranges.{frequencyIn}
-use Rattle.block.specs.Steps.{stepsOf, firstOutside}
+use Rattle.ranges.specs.Ranges.{frequencyIn}
+use Rattle.rooms.specs.Steps.{stepsOf, firstOutside}
 use Rattle.block.specs.Play.{play}
 use Rattle.block.specs.Calls.{Call, done}
-use Rattle.nes_triangle.specs.declared.State.{State}
+use Rattle.states.specs.declared.nes_triangle.State.{State}
 use Rattle.nes_triangle.specs.declared.Rendered.{Rendered}
 use Rattle.nes_triangle.specs.declared.depth.Depth.{Depth}
 use Rattle.nes_triangle.specs.Depth.{depthOf}

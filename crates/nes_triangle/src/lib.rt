@@ -4,54 +4,27 @@ ghost use mathlib.Core.Bool.{true};
 ghost use mathlib.Core.List.{[], _∷_};
 ghost use Rattle.block.specs.Calls.{run};
 ghost use Rattle.nes_triangle.specs.Sample.{sampleAt};
-ghost use Rattle.nes_triangle.specs.Block.{newState, initState, stepIn, stateIn, parametersIn, rooms, renderOf, left};
+ghost use Rattle.nes_triangle.specs.Block.{stepIn, stateIn, parametersIn, rooms, renderOf, left};
 ghost use Rattle.nes_triangle.specs.Private.{Fit, Playable, playedOf, refused};
 use block::Answer;
 use block::Counts;
-use block::Found;
-use block::Room;
 use parameter_interpolator::ParameterInterpolator;
+use rooms::Found;
+use rooms::Room;
 
 mod depth;
 mod sample;
 
-pub struct State {
-    pub phase: f32,
-    pub next_sample: f32,
-    pub step: i32,
-    pub ascending: bool,
-    pub frequency: f32,
-}
+// The state, its default and its initial value, passed on from `states`.
+pub use states::nes_triangle::State;
+pub use states::nes_triangle::init;
+pub use states::nes_triangle::new;
 
 // What a call gives.
 pub struct Rendered {
     pub answer: Answer,
     pub state: State,
     pub counts: Counts,
-}
-
-pub fn new() -> State
-    ensures { λ r. ⌜ r ≡ newState ⌝ }
-{
-    State {
-        phase: 0.0,
-        next_sample: 0.0,
-        step: 0,
-        ascending: false,
-        frequency: 0.0,
-    }
-}
-
-pub fn init() -> State
-    ensures { λ r. ⌜ r ≡ initState ⌝ }
-{
-    State {
-        phase: 0.0,
-        next_sample: 0.0,
-        step: 0,
-        ascending: true,
-        frequency: 0.001,
-    }
 }
 
 // Renders a block into `out`, from the frequency that the last block ended with to this one, with 2^num_bits steps a cycle.
@@ -76,9 +49,7 @@ pub fn render(state: State, frequency: f32, num_bits: u32, out: &mut [f32]) -> R
 fn state_in(s: State, num_bits: u32) -> bool
     ensures { λ r. ⌜ r ≡ stateIn s «num_bits» ⌝ }
 {
-    block::ranges::phase_in(s.phase)
-        & block::ranges::frequency_in(s.frequency)
-        & step_in(s.step, num_bits)
+    ranges::phase_in(s.phase) & ranges::frequency_in(s.frequency) & step_in(s.step, num_bits)
 }
 
 fn step_in(step: i32, num_bits: u32) -> bool
@@ -94,7 +65,7 @@ fn step_in(step: i32, num_bits: u32) -> bool
 fn parameters_in(frequency: f32, num_bits: u32) -> bool
     ensures { λ r. ⌜ r ≡ parametersIn frequency «num_bits» ⌝ }
 {
-    block::ranges::parameter_frequency_in(frequency) & depth::bits_in(num_bits)
+    ranges::parameter_frequency_in(frequency) & depth::bits_in(num_bits)
 }
 
 fn refuse(answer: Answer, state: State) -> Rendered
@@ -130,7 +101,7 @@ fn drift_or_play(
         Room::Unused,
         Room::Unused,
     ];
-    match block::first_outside(moving, kept, n) {
+    match rooms::first_outside(moving, kept, n) {
         Found::Outside(i) => refuse(Answer::Drift(i), state),
         Found::Nowhere => play(state, num_bits, fm, out),
     }

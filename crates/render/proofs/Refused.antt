@@ -8,13 +8,13 @@ use lib.ListN.{length}
 use lib.Ieee.{Float, lt}
 use Rattle.floats.specs.F32.{half32}
 use Rattle.parameter_interpolator.specs.declared.ParameterInterpolator.{ParameterInterpolator}
-use Rattle.block.specs.declared.Room.{Room}
-use Rattle.block.specs.declared.Found.{Found}
-use Rattle.block.specs.declared.Found.the-variants.{Outside, Nowhere}
-use Rattle.block.specs.Steps.{stepsOf, firstOutside}
+use Rattle.rooms.specs.declared.Room.{Room}
+use Rattle.rooms.specs.declared.Found.{Found}
+use Rattle.rooms.specs.declared.Found.the-variants.{Outside, Nowhere}
+use Rattle.rooms.specs.Steps.{stepsOf, firstOutside}
 use Rattle.block.specs.Play.{Sample}
 use Rattle.block.specs.Calls.{Call, run}
-use Rattle.block.proofs.Bools.{cond-both}
+use Rattle.ranges.proofs.Bools.{cond-both}
 use Rattle.block.proofs.Runs.{run-drift, run-done}
 use Rattle.jobs.specs.Record.{jobOf}
 use Rattle.jobs.specs.declared.Settings.{Settings}
@@ -26,11 +26,11 @@ use Rattle.variable_saw.specs.Block as Saw
 use Rattle.super_square.specs.Block as Square
 use Rattle.nes_triangle.specs.Block as Nes
 use Rattle.string_synth.specs.Block as Strings
-use Rattle.variable_shape.specs.declared.State.{State as ShapeState}
-use Rattle.variable_saw.specs.declared.State.{State as SawState}
-use Rattle.super_square.specs.declared.State.{State as SquareState}
-use Rattle.nes_triangle.specs.declared.State.{State as NesState}
-use Rattle.string_synth.specs.declared.State.{State as StringState}
+use Rattle.states.specs.declared.variable_shape.State.{State as ShapeState}
+use Rattle.states.specs.declared.variable_saw.State.{State as SawState}
+use Rattle.states.specs.declared.super_square.State.{State as SquareState}
+use Rattle.states.specs.declared.nes_triangle.State.{State as NesState}
+use Rattle.states.specs.declared.string_synth.State.{State as StringState}
 use Rattle.render.specs.declared.bank.Bank.{Bank}
 use Rattle.render.specs.Bank.{withShape, withSaw, withSuperSquare, withNes, withString, settingsPlayed, askedPlayed, recordPlayed, silence}
 

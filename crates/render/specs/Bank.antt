@@ -15,23 +15,28 @@ use Rattle.jobs.specs.declared.Settings.{Settings}
 use Rattle.jobs.specs.declared.Settings.the-variants.{VariableShape, VariableSaw, SuperSquare, NesTriangle, StringSynth}
 use Rattle.jobs.specs.declared.Asked.{Asked}
 use Rattle.jobs.specs.declared.Asked.the-variants.{BadRecord as Malformed, Play}
+use Rattle.states.specs.VariableShape as ShapeState
 use Rattle.variable_shape.specs.Block as Shape
+use Rattle.states.specs.VariableSaw as SawState
 use Rattle.variable_saw.specs.Block as Saw
+use Rattle.states.specs.SuperSquare as SquareState
 use Rattle.super_square.specs.Block as Square
+use Rattle.states.specs.NesTriangle as NesState
 use Rattle.nes_triangle.specs.Block as Nes
+use Rattle.states.specs.StringSynth as StringsState
 use Rattle.string_synth.specs.Block as Strings
-use Rattle.variable_shape.specs.declared.State.{State as ShapeState}
-use Rattle.variable_saw.specs.declared.State.{State as SawState}
-use Rattle.super_square.specs.declared.State.{State as SquareState}
-use Rattle.nes_triangle.specs.declared.State.{State as NesState}
-use Rattle.string_synth.specs.declared.State.{State as StringState}
+use Rattle.states.specs.declared.variable_shape.State.{State as ShapeState}
+use Rattle.states.specs.declared.variable_saw.State.{State as SawState}
+use Rattle.states.specs.declared.super_square.State.{State as SquareState}
+use Rattle.states.specs.declared.nes_triangle.State.{State as NesState}
+use Rattle.states.specs.declared.string_synth.State.{State as StringState}
 use Rattle.render.specs.declared.bank.Bank.{Bank}
 use Rattle.render.specs.declared.bank.Outcome.{Outcome}
 use Rattle.render.specs.declared.bank.Played.{Played}
 
 -- "Each kind starts from `init`"
 abbrev pub initBank : Bank
-initBank = record { shape = Shape.initState; saw = Saw.initState; «super_square» = Square.initState; nes = Nes.initState; string = Strings.initState }
+initBank = record { shape = ShapeState.initState; saw = SawState.initState; «super_square» = SquareState.initState; nes = NesState.initState; string = StringsState.initState }
 
 abbrev pub toldOf : Answer → Counts → Outcome
 toldOf answer counts = record { answer = numberOf answer; drift = indexOf answer; counts = counts }

@@ -8,10 +8,10 @@ use lib.ListN.{length}
 use lib.Ieee.{Float, lt, le, ofBits, isNan}
 use Rattle.floats.specs.F32.{zero32, half32, one32, four32, minFrequency}
 use Rattle.floats.proofs.Order.{numbers, lt→le, le-trans, le-not-lt, not-le-lt}
-use Rattle.block.specs.Ranges.{within, parameterFrequencyIn}
+use Rattle.ranges.specs.Ranges.{within, parameterFrequencyIn}
 use Rattle.block.specs.Calls.{refusal, run}
-use Rattle.block.proofs.Bools.{and-both}
-use Rattle.string_synth.specs.declared.State.{State}
+use Rattle.ranges.proofs.Bools.{and-both}
+use Rattle.states.specs.declared.string_synth.State.{State}
 use Rattle.string_synth.specs.Sample.{sampleAt}
 use Rattle.string_synth.specs.Block.{stateIn, registrationIn, parametersIn, interpolators, rooms, renderOf}
 

@@ -16,13 +16,13 @@ use Rattle.floats.proofs.Ranges.{at-least-0, under-of, under-lt}
 use Rattle.parameter_interpolator.specs.declared.ParameterInterpolator.{ParameterInterpolator}
 use Rattle.parameter_interpolator.specs.Interpolator.{newInterpolator}
 use Rattle.block.specs.declared.Answer.the-variants.{LongBlock, BadRegistration, BadState, BadParam, TooHigh, Drift}
-use Rattle.block.specs.declared.Found.{Found}
-use Rattle.block.specs.declared.Found.the-variants.{Outside, Nowhere}
-use Rattle.block.specs.Steps.{stepsOf, firstOutside}
+use Rattle.rooms.specs.declared.Found.{Found}
+use Rattle.rooms.specs.declared.Found.the-variants.{Outside, Nowhere}
+use Rattle.rooms.specs.Steps.{stepsOf, firstOutside}
 use Rattle.block.specs.Calls.{run}
-use Rattle.block.proofs.Bools.{and-both}
+use Rattle.ranges.proofs.Bools.{and-both}
 use Rattle.block.proofs.Runs.{run-drift, run-done}
-use Rattle.string_synth.specs.declared.State.{State}
+use Rattle.states.specs.declared.string_synth.State.{State}
 use Rattle.string_synth.specs.declared.Rendered.{Rendered}
 use Rattle.string_synth.specs.declared.sample.Saws.{Saws}
 use Rattle.string_synth.specs.Sample.{sampleAt}

@@ -12,13 +12,13 @@ use Rattle.floats.proofs.Ticks.{tick, cycle, tick-pos, topStringStep-at, Sum}
 use Rattle.floats.proofs.Turn.{Step, turn-8, turn-sum, turn-stays, turn-by}
 use Rattle.floats.proofs.Ranges.{Positive, positive-of, positive-le, at-least-0}
 use Rattle.whole_part.specs.WholePart.{wholePart}
-use Rattle.block.specs.declared.Room.the-variants.{StringFrequency, Sixteen}
-use Rattle.block.specs.Ranges.{sixteenIn}
-use Rattle.block.specs.Rooms.{inRoom}
-use Rattle.block.specs.Steps.{allIn}
-use Rattle.block.proofs.Bools.{and-both}
+use Rattle.rooms.specs.declared.Room.the-variants.{StringFrequency, Sixteen}
+use Rattle.ranges.specs.Ranges.{sixteenIn}
+use Rattle.rooms.specs.Rooms.{inRoom}
+use Rattle.rooms.specs.Steps.{allIn}
+use Rattle.ranges.proofs.Bools.{and-both}
 use Rattle.block.proofs.Plays.{Inside, Keeps}
-use Rattle.string_synth.specs.declared.State.{State}
+use Rattle.states.specs.declared.string_synth.State.{State}
 use Rattle.string_synth.specs.declared.sample.Saws.{Saws}
 use Rattle.string_synth.specs.declared.sample.Reached.{Reached}
 use Rattle.string_synth.specs.Sample.{isSegment, stayed, crossed, reachedOf, finish, sampleOf, sawsOf, sampleAt}

@@ -9,11 +9,11 @@ use Rattle.parameter_interpolator.specs.Interpolator.{nextInterpolator}
 use Rattle.block.specs.declared.Answer.the-variants.{Done}
 use Rattle.block.specs.declared.Counts.{Counts}
 use Rattle.block.specs.Counting.{noCounts, plus, wrapped}
-use Rattle.block.specs.Steps.{moved, values}
+use Rattle.rooms.specs.Steps.{moved, values}
 use Rattle.block.specs.Play.{Sample, Heard}
 use Rattle.block.specs.Calls.{done}
 use Rattle.block.proofs.Plays.{Playing, playing-start, playing-counts, playing-more, playing-end}
-use Rattle.string_synth.specs.declared.State.{State}
+use Rattle.states.specs.declared.string_synth.State.{State}
 use Rattle.string_synth.specs.declared.sample.Saws.{Saws}
 use Rattle.string_synth.specs.declared.sample.Sampled.{Sampled}
 use Rattle.string_synth.specs.Sample.{sampleOf, sampleAt}

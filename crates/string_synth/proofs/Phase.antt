@@ -14,21 +14,22 @@ use Rattle.floats.proofs.At.{At}
 use Rattle.floats.proofs.Ticks.{tick, cycle}
 use Rattle.parameter_interpolator.specs.declared.ParameterInterpolator.{ParameterInterpolator}
 use Rattle.block.specs.declared.Counts.{Counts}
-use Rattle.block.specs.declared.Found.{Found}
-use Rattle.block.specs.declared.Found.the-variants.{Outside, Nowhere}
+use Rattle.rooms.specs.declared.Found.{Found}
+use Rattle.rooms.specs.declared.Found.the-variants.{Outside, Nowhere}
 use Rattle.block.specs.Counting.{noCounts}
-use Rattle.block.specs.Steps.{stepsOf, firstOutside}
+use Rattle.rooms.specs.Steps.{stepsOf, firstOutside}
 use Rattle.block.specs.Play.{play}
 use Rattle.block.specs.Account.{Accounted, chain, usedBy}
 use Rattle.block.specs.Calls.{Call, refusal, run}
-use Rattle.block.proofs.Bools.{cond-both, by-test, either-way}
+use Rattle.ranges.proofs.Bools.{cond-both, by-test, either-way}
 use Rattle.block.proofs.Plays.{Few, few-none, Inside}
 use Rattle.block.proofs.Runs.{run-drift, run-done}
 use Rattle.block.proofs.Accounts.{OneSample, steps-one, steps-accounted, CallLaw, Untouched, call-accounts, chain-accounts}
 use Rattle.block.proofs.CallLaws.{few-most, not-done, refusal-untouched, refusal-law, run-law, run-few}
-use Rattle.string_synth.specs.declared.State.{State}
+use Rattle.states.specs.declared.string_synth.State.{State}
 use Rattle.string_synth.specs.Sample.{finish, sampleOf, sawsOf, sampleAt}
-use Rattle.string_synth.specs.Block.{newState, initState, gainsIn, stateIn, parametersIn, interpolators, rooms, renderOf, Arguments, callOf, usedOf, Phase32}
+use Rattle.states.specs.StringSynth.{newState, initState}
+use Rattle.string_synth.specs.Block.{gainsIn, stateIn, parametersIn, interpolators, rooms, renderOf, Arguments, callOf, usedOf, Phase32}
 use Rattle.string_synth.specs.Private.{Valid}
 use Rattle.string_synth.proofs.Keeping.{reach-law, stepped-of, keeps}
 use Rattle.string_synth.proofs.Calls.{valid-of, of-valid}

@@ -9,7 +9,7 @@ use lib.ListN.{length, getD, drop, drop-of-length-le}
 use lib.Seq.{drop-cons}
 use lib.Ieee.{Float, nan}
 use Rattle.floats.specs.F32.{_⊕_, _⊖_, _⊗_, two32, eight32}
-use Rattle.block.specs.Ranges.{unitIn}
+use Rattle.ranges.specs.Ranges.{unitIn}
 use Rattle.string_synth.specs.declared.targets.Octave.{Octave}
 use Rattle.string_synth.specs.Targets.{lowered, placedAt, gainBetween, targetsOf}
 use Rattle.string_synth.specs.Block.{registrationIn}

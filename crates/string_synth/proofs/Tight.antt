@@ -5,9 +5,9 @@ use lib.Ieee.{Float}
 use Rattle.block.specs.Calls.{Call}
 use Rattle.floats.proofs.Contracts.{coincide}
 use Rattle.block.proofs.Contracts.{same-answer}
-use Rattle.string_synth.specs.declared.State.{State}
+use Rattle.states.specs.declared.string_synth.State.{State}
 use Rattle.string_synth.specs.declared.Rendered.{Rendered}
-use Rattle.string_synth.specs.Block.{newState, initState, renderOf, left}
+use Rattle.string_synth.specs.Block.{renderOf, left}
 
 -- two calls with the same arguments: what they return is equal field by field, and so are the buffers that they leave
 pub tight : (s : State) (frequency : Float) (registration : List Float) (gain : Float) (xs : List Float) (r q : Rendered) (ys zs : List Float)
@@ -18,9 +18,3 @@ tight s frequency registration gain xs r q ys zs h k =
     let state = ap (λ (c : Call State). c .state) e in
     let counts = ap (λ (c : Call State). c .counts) e in
     (rw (answer, state, counts), ap (λ (c : Call State). c .samples) e)
-
-pub new-tight : (r q : State) → r ≡ newState → q ≡ newState → r ≡ q
-new-tight r q h k = coincide h k
-
-pub init-tight : (r q : State) → r ≡ initState → q ≡ initState → r ≡ q
-init-tight r q h k = coincide h k

@@ -10,38 +10,17 @@ use lib.Ieee.{Float, binary32, fits, lt, le}
 use Rattle.floats.specs.F32.{f32, zero32, half32, four32, eight32, topStringStep}
 use Rattle.parameter_interpolator.specs.declared.ParameterInterpolator.{ParameterInterpolator}
 use Rattle.parameter_interpolator.specs.Interpolator.{newInterpolator}
-use Rattle.block.specs.declared.Room.{Room}
-use Rattle.block.specs.declared.Room.the-variants.{StringFrequency, Sixteen}
+use Rattle.rooms.specs.declared.Room.{Room}
+use Rattle.rooms.specs.declared.Room.the-variants.{StringFrequency, Sixteen}
 use Rattle.block.specs.Answers.{numberOf, indexOf}
-use Rattle.block.specs.Ranges.{within, parameterFrequencyIn, unitIn, sixteenIn}
+use Rattle.ranges.specs.Ranges.{within, parameterFrequencyIn, unitIn, sixteenIn}
 use Rattle.block.specs.Calls.{Call, refusal, run}
 use Rattle.block.specs.Account.{usedBy}
-use Rattle.string_synth.specs.declared.State.{State}
+use Rattle.states.specs.declared.string_synth.State.{State}
 use Rattle.string_synth.specs.declared.Rendered.{Rendered}
 use Rattle.string_synth.specs.declared.sample.Saws.{Saws}
 use Rattle.string_synth.specs.Sample.{sampleAt}
 use Rattle.string_synth.specs.Targets.{targetsOf}
-
--- a state that rests at 0, with a frequency
-abbrev pub atRest : Float → State
-atRest frequency = record {
-  phase = zero32;
-  «next_sample» = zero32;
-  segment = pos 0;
-  frequency = frequency;
-  «saw_8_gain» = zero32;
-  «saw_4_gain» = zero32;
-  «saw_2_gain» = zero32;
-  «saw_1_gain» = zero32;
-}
-
--- the source's `Default`
-abbrev pub newState : State
-newState = atRest zero32
-
--- lines 40 to 50; the frequency is 0.001
-abbrev pub initState : State
-initState = atRest (f32 0x3a83_126f)
 
 -- 01, "State": phase at least 0 and below 8, segment 0 to 7
 abbrev pub placeIn : State → Bool

@@ -12,13 +12,13 @@ use Rattle.floats.proofs.Ticks.{cycle}
 use Rattle.floats.proofs.Ranges.{Under}
 use Rattle.parameter_interpolator.specs.declared.ParameterInterpolator.{ParameterInterpolator}
 use Rattle.block.specs.declared.Answer.{Answer}
-use Rattle.block.specs.declared.Found.the-variants.{Nowhere}
+use Rattle.rooms.specs.declared.Found.the-variants.{Nowhere}
 use Rattle.block.specs.Counting.{noCounts}
-use Rattle.block.specs.Ranges.{within}
-use Rattle.block.specs.Steps.{stepsOf, firstOutside}
+use Rattle.ranges.specs.Ranges.{within}
+use Rattle.rooms.specs.Steps.{stepsOf, firstOutside}
 use Rattle.block.specs.Play.{play}
 use Rattle.block.specs.Calls.{Call, done}
-use Rattle.string_synth.specs.declared.State.{State}
+use Rattle.states.specs.declared.string_synth.State.{State}
 use Rattle.string_synth.specs.declared.Rendered.{Rendered}
 use Rattle.string_synth.specs.declared.sample.Saws.{Saws}
 use Rattle.string_synth.specs.Sample.{sampleAt}

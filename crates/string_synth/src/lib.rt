@@ -3,64 +3,28 @@ ghost use mathlib.Core.Path.{_≡_};
 ghost use mathlib.Core.List.{[], _∷_};
 ghost use Rattle.block.specs.Calls.{run};
 ghost use Rattle.string_synth.specs.Sample.{sampleAt};
-ghost use Rattle.string_synth.specs.Block.{newState, initState, placeIn, gainsIn, stateIn, registrationIn, parametersIn, rooms, renderOf, left};
+ghost use Rattle.string_synth.specs.Block.{placeIn, gainsIn, stateIn, registrationIn, parametersIn, rooms, renderOf, left};
 ghost use Rattle.string_synth.specs.Private.{sawsAt, Fit, Playable, playedOf, refused};
 use crate::sample::Saws;
 use block::Answer;
 use block::Counts;
-use block::Found;
-use block::Room;
 use parameter_interpolator::ParameterInterpolator;
+use rooms::Found;
+use rooms::Room;
 
 mod sample;
 mod targets;
 
-pub struct State {
-    pub phase: f32,
-    pub next_sample: f32,
-    pub segment: i32,
-    pub frequency: f32,
-    pub saw_8_gain: f32,
-    pub saw_4_gain: f32,
-    pub saw_2_gain: f32,
-    pub saw_1_gain: f32,
-}
+// The state, its default and its initial value, passed on from `states`.
+pub use states::string_synth::State;
+pub use states::string_synth::init;
+pub use states::string_synth::new;
 
 // What a call gives.
 pub struct Rendered {
     pub answer: Answer,
     pub state: State,
     pub counts: Counts,
-}
-
-pub fn new() -> State
-    ensures { λ r. ⌜ r ≡ newState ⌝ }
-{
-    State {
-        phase: 0.0,
-        next_sample: 0.0,
-        segment: 0,
-        frequency: 0.0,
-        saw_8_gain: 0.0,
-        saw_4_gain: 0.0,
-        saw_2_gain: 0.0,
-        saw_1_gain: 0.0,
-    }
-}
-
-pub fn init() -> State
-    ensures { λ r. ⌜ r ≡ initState ⌝ }
-{
-    State {
-        phase: 0.0,
-        next_sample: 0.0,
-        segment: 0,
-        frequency: 0.001,
-        saw_8_gain: 0.0,
-        saw_4_gain: 0.0,
-        saw_2_gain: 0.0,
-        saw_1_gain: 0.0,
-    }
 }
 
 // Adds a block to `out`, from the frequency and gains that the last block ended with to these. The seven registration entries are
@@ -102,7 +66,7 @@ pub fn render(
 fn state_in(s: State) -> bool
     ensures { λ r. ⌜ r ≡ stateIn s ⌝ }
 {
-    place_in(s) & block::ranges::within(0.0, 0.53125, s.frequency) & gains_in(s)
+    place_in(s) & ranges::within(0.0, 0.53125, s.frequency) & gains_in(s)
 }
 
 fn place_in(s: State) -> bool
@@ -114,18 +78,18 @@ fn place_in(s: State) -> bool
 fn gains_in(s: State) -> bool
     ensures { λ r. ⌜ r ≡ gainsIn (s .«saw_8_gain») (s .«saw_4_gain») (s .«saw_2_gain») (s .«saw_1_gain») ⌝ }
 {
-    block::ranges::sixteen_in(s.saw_8_gain)
-        & block::ranges::sixteen_in(s.saw_4_gain)
-        & block::ranges::sixteen_in(s.saw_2_gain)
-        & block::ranges::sixteen_in(s.saw_1_gain)
+    ranges::sixteen_in(s.saw_8_gain)
+        & ranges::sixteen_in(s.saw_4_gain)
+        & ranges::sixteen_in(s.saw_2_gain)
+        & ranges::sixteen_in(s.saw_1_gain)
 }
 
 fn parameters_in(frequency: f32, registration: &[f32], gain: f32) -> bool
     ensures { λ r. ⌜ r ≡ parametersIn frequency (now (registration .entry)) gain ⌝ }
 {
-    block::ranges::parameter_frequency_in(frequency)
+    ranges::parameter_frequency_in(frequency)
         & registration_in(registration)
-        & block::ranges::within(0.0, 4.0, gain)
+        & ranges::within(0.0, 4.0, gain)
 }
 
 fn registration_in(registration: &[f32]) -> bool
@@ -134,7 +98,7 @@ fn registration_in(registration: &[f32]) -> bool
     let mut inside = true;
     let mut i = 0;
     while i < registration.len() {
-        inside = inside & block::ranges::unit_in(registration[i]);
+        inside = inside & ranges::unit_in(registration[i]);
         i += 1;
     }
     inside
@@ -172,7 +136,7 @@ fn drift_or_play(
         Room::Sixteen,
         Room::Sixteen,
     ];
-    match block::first_outside(moving, kept, n) {
+    match rooms::first_outside(moving, kept, n) {
         Found::Outside(i) => refuse(Answer::Drift(i), state),
         Found::Nowhere => play(state, fm, saw_8, saw_4, saw_2, saw_1, out),
     }

@@ -7,10 +7,10 @@ use Rattle.floats.specs.F32.{half32}
 use Rattle.floats.proofs.Ticks.{cycle, tick-pos, half-at}
 use Rattle.floats.proofs.Turn.{turn-1, turn-sum}
 use Rattle.floats.proofs.Ranges.{Under}
-use Rattle.block.specs.declared.Edge.{Edge}
-use Rattle.block.specs.Sync.{slaveAtReset, wrapOnce, transitionDuringReset, cutEdge}
-use Rattle.block.proofs.Crossings.{Crosses, Crossable}
-use Rattle.super_square.specs.declared.State.{State}
+use Rattle.edges.specs.declared.Edge.{Edge}
+use Rattle.edges.specs.Sync.{slaveAtReset, wrapOnce, transitionDuringReset, cutEdge}
+use Rattle.edges.proofs.Crossings.{Crosses, Crossable}
+use Rattle.states.specs.declared.super_square.State.{State}
 use Rattle.super_square.specs.Sample.{level, riseOf, fallOf, crossed, edgeOf, resetEdge}
 use Rattle.super_square.specs.Private.{Ready}
 

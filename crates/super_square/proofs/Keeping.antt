@@ -10,16 +10,17 @@ use Rattle.floats.specs.F32.{_⊕_, _⊖_, _⊘_, zero32, half32, one32}
 use Rattle.floats.proofs.Ticks.{tick, cycle, one-at, tick-pos, Sum}
 use Rattle.floats.proofs.Turn.{Step, turn-1, turn-sum, turn-wraps, turn-stays}
 use Rattle.floats.proofs.Ranges.{Under, passed-le, failed-le, mul-le, reset-time}
-use Rattle.block.specs.declared.Edge.{Edge}
+use Rattle.edges.specs.declared.Edge.{Edge}
 use Rattle.block.specs.Counting.{oneIf}
-use Rattle.block.specs.Sync.{transitionDuringReset, slaveAtReset, wrapOnce, cutEdge}
-use Rattle.block.specs.Steps.{allIn}
-use Rattle.block.proofs.RangeLaws.{frequency-step, step-frequency}
-use Rattle.block.proofs.Bools.{and-both, one-most}
-use Rattle.block.proofs.Crossings.{Crossable, Crossed, crossed-of}
-use Rattle.block.proofs.CrossingsReset.{cut-crossable, maybe-crossed}
+use Rattle.edges.specs.Sync.{transitionDuringReset, slaveAtReset, wrapOnce, cutEdge}
+use Rattle.rooms.specs.Steps.{allIn}
+use Rattle.rooms.proofs.RangeLaws.{frequency-step, step-frequency}
+use Rattle.ranges.proofs.Bools.{and-both}
+use Rattle.block.proofs.Limits.{one-most}
+use Rattle.edges.proofs.Crossings.{Crossable, Crossed, crossed-of}
+use Rattle.edges.proofs.CrossingsReset.{cut-crossable, maybe-crossed}
 use Rattle.block.proofs.Plays.{Inside, Keeps}
-use Rattle.super_square.specs.declared.State.{State}
+use Rattle.states.specs.declared.super_square.State.{State}
 use Rattle.super_square.specs.declared.sample.Sampled.{Sampled}
 use Rattle.super_square.specs.Sample.{level, crossed, edgeOf, finish, resetEdge, resetSample, plainSample, sampleOf, sampleAt}
 use Rattle.super_square.specs.Block.{rooms}

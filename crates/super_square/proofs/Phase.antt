@@ -13,13 +13,14 @@ use Rattle.floats.proofs.At.{At}
 use Rattle.floats.proofs.Ticks.{tick, cycle}
 use Rattle.block.specs.Account.{Accounted, chain, usedBy, Balanced}
 use Rattle.block.specs.Calls.{Call, refusal, run}
-use Rattle.block.proofs.Bools.{cond-both, by-test, either-way}
+use Rattle.ranges.proofs.Bools.{cond-both, by-test, either-way}
 use Rattle.block.proofs.Plays.{Few, few-none, Inside}
 use Rattle.block.proofs.Accounts.{OneSample, steps-one, steps-accounted, CallLaw, Untouched, call-accounts, chain-accounts}
 use Rattle.block.proofs.CallLaws.{few-most, not-done, refusal-untouched, refusal-law, run-law, run-few, run-balance}
-use Rattle.super_square.specs.declared.State.{State}
+use Rattle.states.specs.declared.super_square.State.{State}
 use Rattle.super_square.specs.Sample.{sampleAt}
-use Rattle.super_square.specs.Block.{newState, initState, stateIn, parametersIn, interpolators, rooms, renderOf, Arguments, callOf, usedOf, Phases32}
+use Rattle.states.specs.SuperSquare.{newState, initState}
+use Rattle.super_square.specs.Block.{stateIn, parametersIn, interpolators, rooms, renderOf, Arguments, callOf, usedOf, Phases32}
 use Rattle.super_square.specs.Private.{Valid}
 use Rattle.super_square.proofs.Keeping.{law-of, keeps}
 use Rattle.super_square.proofs.Calls.{valid-of, of-valid}

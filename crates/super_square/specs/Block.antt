@@ -8,24 +8,16 @@ use lib.Ieee.{Float, binary32, fits, lt}
 use Rattle.floats.specs.F32.{_⊕_, _⊖_, _⊗_, f32, zero32, half32, one32, sixteen32}
 use Rattle.parameter_interpolator.specs.declared.ParameterInterpolator.{ParameterInterpolator}
 use Rattle.parameter_interpolator.specs.Interpolator.{newInterpolator}
-use Rattle.block.specs.declared.Room.{Room}
-use Rattle.block.specs.declared.Room.the-variants.{Frequency}
-use Rattle.block.specs.Targets.{clipped}
+use Rattle.rooms.specs.declared.Room.{Room}
+use Rattle.rooms.specs.declared.Room.the-variants.{Frequency}
+use Rattle.ranges.specs.Targets.{clipped}
 use Rattle.block.specs.Answers.{numberOf, indexOf}
-use Rattle.block.specs.Ranges.{phaseIn, frequencyIn, parameterFrequencyIn, unitIn}
+use Rattle.ranges.specs.Ranges.{phaseIn, frequencyIn, parameterFrequencyIn, unitIn}
 use Rattle.block.specs.Calls.{Call, refusal, run}
 use Rattle.block.specs.Account.{usedBy}
-use Rattle.super_square.specs.declared.State.{State}
+use Rattle.states.specs.declared.super_square.State.{State}
 use Rattle.super_square.specs.declared.Rendered.{Rendered}
 use Rattle.super_square.specs.Sample.{sampleAt}
-
--- the source's `Default`
-abbrev pub newState : State
-newState = record { «master_phase» = zero32; «slave_phase» = zero32; «next_sample» = zero32; high = false; «master_frequency» = zero32; «slave_frequency» = zero32 }
-
--- lines 27 to 35; the slave's frequency is 0.01
-abbrev pub initState : State
-initState = record { «master_phase» = zero32; «slave_phase» = zero32; «next_sample» = zero32; high = false; «master_frequency» = zero32; «slave_frequency» = f32 0x3c23_d70a }
 
 -- 01, "State": phases at least 0 and below 1, frequencies 0 to 17/64, `next_sample` any bits
 unfoldable pub stateIn : State → Bool

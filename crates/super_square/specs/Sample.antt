@@ -6,12 +6,12 @@ use lib.ListN.{getD}
 use lib.Ieee.{Float, lt, le}
 use Rattle.floats.specs.F32.{_⊕_, _⊖_, _⊗_, _⊘_, zero32, half32, one32, two32}
 use Rattle.polyblep.specs.Polyblep.{thisBlepSample, nextBlepSample}
-use Rattle.block.specs.declared.Edge.{Edge}
+use Rattle.edges.specs.declared.Edge.{Edge}
 use Rattle.block.specs.Counting.{oneIf}
-use Rattle.block.specs.Crossings.{crossings}
-use Rattle.block.specs.Sync.{resetTime, slaveAtReset, wrapOnce, transitionDuringReset, cutEdge}
+use Rattle.edges.specs.Crossings.{crossings}
+use Rattle.edges.specs.Sync.{resetTime, slaveAtReset, wrapOnce, transitionDuringReset, cutEdge}
 use Rattle.block.specs.Play.{Sample}
-use Rattle.super_square.specs.declared.State.{State}
+use Rattle.states.specs.declared.super_square.State.{State}
 use Rattle.super_square.specs.declared.sample.Sampled.{Sampled}
 
 -- the square, lines 90 and 127

@@ -3,56 +3,26 @@ ghost use mathlib.Core.Path.{_≡_};
 ghost use mathlib.Core.List.{[], _∷_};
 ghost use Rattle.block.specs.Calls.{run};
 ghost use Rattle.super_square.specs.Sample.{sampleAt};
-ghost use Rattle.super_square.specs.Block.{newState, initState, stateIn, parametersIn, factorOf, rooms, renderOf, left};
+ghost use Rattle.super_square.specs.Block.{stateIn, parametersIn, factorOf, rooms, renderOf, left};
 ghost use Rattle.super_square.specs.Private.{Fit, Playable, playedOf, refused};
 use block::Answer;
 use block::Counts;
-use block::Found;
-use block::Room;
 use parameter_interpolator::ParameterInterpolator;
+use rooms::Found;
+use rooms::Room;
 
 mod sample;
 
-pub struct State {
-    pub master_phase: f32,
-    pub slave_phase: f32,
-    pub next_sample: f32,
-    pub high: bool,
-    pub master_frequency: f32,
-    pub slave_frequency: f32,
-}
+// The state, its default and its initial value, passed on from `states`.
+pub use states::super_square::State;
+pub use states::super_square::init;
+pub use states::super_square::new;
 
 // What a call gives.
 pub struct Rendered {
     pub answer: Answer,
     pub state: State,
     pub counts: Counts,
-}
-
-pub fn new() -> State
-    ensures { λ r. ⌜ r ≡ newState ⌝ }
-{
-    State {
-        master_phase: 0.0,
-        slave_phase: 0.0,
-        next_sample: 0.0,
-        high: false,
-        master_frequency: 0.0,
-        slave_frequency: 0.0,
-    }
-}
-
-pub fn init() -> State
-    ensures { λ r. ⌜ r ≡ initState ⌝ }
-{
-    State {
-        master_phase: 0.0,
-        slave_phase: 0.0,
-        next_sample: 0.0,
-        high: false,
-        master_frequency: 0.0,
-        slave_frequency: 0.01,
-    }
 }
 
 // Renders a block into `out`, from the frequency and shape that the last block ended with to these.
@@ -69,8 +39,8 @@ pub fn render(state: State, frequency: f32, shape: f32, out: &mut [f32]) -> Rend
         return refuse(Answer::BadParam, state);
     }
     let n = out.len() as u32;
-    let master_target = block::targets::clip(frequency);
-    let slave_target = block::targets::clip(frequency * factor(shape));
+    let master_target = ranges::targets::clip(frequency);
+    let slave_target = ranges::targets::clip(frequency * factor(shape));
     let master_fm = ParameterInterpolator::new(state.master_frequency, master_target, n);
     let fm = ParameterInterpolator::new(state.slave_frequency, slave_target, n);
     drift_or_play(state, master_fm, fm, out)
@@ -79,16 +49,16 @@ pub fn render(state: State, frequency: f32, shape: f32, out: &mut [f32]) -> Rend
 fn state_in(s: State) -> bool
     ensures { λ r. ⌜ r ≡ stateIn s ⌝ }
 {
-    block::ranges::phase_in(s.master_phase)
-        & block::ranges::phase_in(s.slave_phase)
-        & block::ranges::frequency_in(s.master_frequency)
-        & block::ranges::frequency_in(s.slave_frequency)
+    ranges::phase_in(s.master_phase)
+        & ranges::phase_in(s.slave_phase)
+        & ranges::frequency_in(s.master_frequency)
+        & ranges::frequency_in(s.slave_frequency)
 }
 
 fn parameters_in(frequency: f32, shape: f32) -> bool
     ensures { λ r. ⌜ r ≡ parametersIn frequency shape ⌝ }
 {
-    block::ranges::parameter_frequency_in(frequency) & block::ranges::unit_in(shape)
+    ranges::parameter_frequency_in(frequency) & ranges::unit_in(shape)
 }
 
 fn refuse(answer: Answer, state: State) -> Rendered
@@ -135,7 +105,7 @@ fn drift_or_play(
         Room::Unused,
         Room::Unused,
     ];
-    match block::first_outside(moving, kept, n) {
+    match rooms::first_outside(moving, kept, n) {
         Found::Outside(i) => refuse(Answer::Drift(i), state),
         Found::Nowhere => play(state, master_fm, fm, out),
     }

@@ -1,13 +1,12 @@
 // One sample of the super square, in the source's order.
 ghost use mathlib.Core.Path.{_≡_};
 ghost use Prim.Native.Nat.{_<_};
-ghost use Rattle.block.proofs.Crossings.{Crossable};
+ghost use Rattle.edges.proofs.Crossings.{Crossable};
 ghost use Rattle.super_square.specs.Sample.{level as levelOf, riseOf, fallOf, crossed, edgeOf, finish as finished, resetEdge, resetSample, plainSample, sampleOf};
 ghost use Rattle.super_square.specs.Private.{Ready};
 use crate::State;
 use block::Counts;
-use block::Edge;
-use block::sync;
+use edges::Edge;
 
 pub struct Sampled {
     pub state: State,
@@ -94,10 +93,10 @@ fn reset_edge(s: State, slave_frequency: f32, time: f32) -> Edge
     requires { ⌜ Crossable (edgeOf s «slave_frequency») ⌝ }
     ensures { λ r. ⌜ r ≡ resetEdge s «slave_frequency» time ⌝ }
 {
-    let reached = sync::slave_at_reset(s.slave_phase, slave_frequency, time);
-    let value = level(sync::wrap_once(reached));
-    let e = sync::cut(edge(s, slave_frequency), value, time);
-    if sync::transition_during_reset(s.high, 0.5, reached) {
+    let reached = edges::slave_at_reset(s.slave_phase, slave_frequency, time);
+    let value = level(edges::wrap_once(reached));
+    let e = edges::cut(edge(s, slave_frequency), value, time);
+    if edges::transition_during_reset(s.high, 0.5, reached) {
         cross(e, slave_frequency)
     } else {
         e

@@ -13,16 +13,16 @@ use Rattle.floats.proofs.Ranges.{Under, at-least-0, passes-le, upto-of}
 use Rattle.parameter_interpolator.specs.declared.ParameterInterpolator.{ParameterInterpolator}
 use Rattle.parameter_interpolator.specs.Interpolator.{newInterpolator}
 use Rattle.block.specs.declared.Answer.the-variants.{LongBlock, BadState, BadParam, Drift}
-use Rattle.block.specs.declared.Found.{Found}
-use Rattle.block.specs.declared.Found.the-variants.{Outside, Nowhere}
-use Rattle.block.specs.Targets.{clipped, clampedWidth}
-use Rattle.block.specs.Steps.{stepsOf, firstOutside}
+use Rattle.rooms.specs.declared.Found.{Found}
+use Rattle.rooms.specs.declared.Found.the-variants.{Outside, Nowhere}
+use Rattle.ranges.specs.Targets.{clipped, clampedWidth}
+use Rattle.rooms.specs.Steps.{stepsOf, firstOutside}
 use Rattle.block.specs.Calls.{run}
-use Rattle.block.proofs.Bools.{and-both}
-use Rattle.block.proofs.RangeLaws.{phase-under, under-phase}
-use Rattle.block.proofs.Padding.{unused, padded}
+use Rattle.ranges.proofs.Bools.{and-both}
+use Rattle.rooms.proofs.RangeLaws.{phase-under, under-phase}
+use Rattle.rooms.proofs.Padding.{unused, padded}
 use Rattle.block.proofs.Runs.{run-drift, run-done}
-use Rattle.variable_saw.specs.declared.State.{State}
+use Rattle.states.specs.declared.variable_saw.State.{State}
 use Rattle.variable_saw.specs.declared.Rendered.{Rendered}
 use Rattle.variable_saw.specs.Sample.{sampleAt}
 use Rattle.variable_saw.specs.Block.{sawPhaseIn, stateIn, parametersIn, rooms, renderOf, left}

@@ -12,14 +12,15 @@ use Rattle.floats.specs.F32.{_⊕_, zero32, one32}
 use Rattle.floats.proofs.Ticks.{tick, cycle, one-at, tick-pos, Sum}
 use Rattle.floats.proofs.Turn.{Step, turn-1, turn-saw, turn-sum, turn-wraps, turn-stays}
 use Rattle.floats.proofs.Ranges.{Positive, passed-le, failed-le}
-use Rattle.block.specs.Ranges.{unitIn, waveshapeIn}
+use Rattle.ranges.specs.Ranges.{unitIn, waveshapeIn}
 use Rattle.block.specs.Account.{Balanced}
-use Rattle.block.specs.Steps.{allIn}
-use Rattle.block.proofs.Bools.{and-both, one-most}
-use Rattle.block.proofs.RangeLaws.{frequency-step, step-frequency, width-unit}
+use Rattle.rooms.specs.Steps.{allIn}
+use Rattle.ranges.proofs.Bools.{and-both}
+use Rattle.block.proofs.Limits.{one-most}
+use Rattle.rooms.proofs.RangeLaws.{frequency-step, step-frequency, width-unit}
 use Rattle.block.proofs.Plays.{Inside, Keeps}
-use Rattle.block.specs.declared.Edge.{Edge}
-use Rattle.variable_saw.specs.declared.State.{State}
+use Rattle.edges.specs.declared.Edge.{Edge}
+use Rattle.states.specs.declared.variable_saw.State.{State}
 use Rattle.variable_saw.specs.declared.sample.Wave.{Wave}
 use Rattle.variable_saw.specs.declared.sample.Sampled.{Sampled}
 use Rattle.variable_saw.specs.Sample.{waveOf, riseOf, wrapOf, edgeOf, finish, sampleOf, sampleAt}

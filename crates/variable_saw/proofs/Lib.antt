@@ -5,4 +5,3 @@ pub mod Loop
 pub mod Calls
 pub mod Phase
 pub mod Tight
-pub mod Figures

@@ -9,11 +9,11 @@ use Rattle.parameter_interpolator.specs.Interpolator.{nextInterpolator}
 use Rattle.block.specs.declared.Answer.the-variants.{Done}
 use Rattle.block.specs.declared.Counts.{Counts}
 use Rattle.block.specs.Counting.{noCounts, plus, wrapped}
-use Rattle.block.specs.Steps.{moved, values}
+use Rattle.rooms.specs.Steps.{moved, values}
 use Rattle.block.specs.Play.{Sample, Heard}
 use Rattle.block.specs.Calls.{done}
 use Rattle.block.proofs.Plays.{Playing, playing-start, playing-counts, playing-more, playing-end}
-use Rattle.variable_saw.specs.declared.State.{State}
+use Rattle.states.specs.declared.variable_saw.State.{State}
 use Rattle.variable_saw.specs.declared.sample.Sampled.{Sampled}
 use Rattle.variable_saw.specs.Sample.{sampleOf, sampleAt}
 use Rattle.variable_saw.specs.Block.{rooms, left}

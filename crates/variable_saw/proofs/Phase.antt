@@ -13,13 +13,14 @@ use Rattle.floats.proofs.At.{At}
 use Rattle.floats.proofs.Ticks.{tick, cycle}
 use Rattle.block.specs.Account.{Accounted, chain, usedBy, Balanced}
 use Rattle.block.specs.Calls.{Call, refusal, run}
-use Rattle.block.proofs.Bools.{cond-both, by-test, either-way}
+use Rattle.ranges.proofs.Bools.{cond-both, by-test, either-way}
 use Rattle.block.proofs.Plays.{Few, few-none, Inside}
 use Rattle.block.proofs.Accounts.{OneSample, steps-one, steps-accounted, CallLaw, Untouched, call-accounts, chain-accounts}
 use Rattle.block.proofs.CallLaws.{few-most, not-done, refusal-untouched, refusal-law, run-law, run-few, run-balance}
-use Rattle.variable_saw.specs.declared.State.{State}
+use Rattle.states.specs.declared.variable_saw.State.{State}
 use Rattle.variable_saw.specs.Sample.{sampleAt}
-use Rattle.variable_saw.specs.Block.{newState, initState, stateIn, parametersIn, rooms, renderOf, Arguments, callOf, moving, usedOf, Phase32}
+use Rattle.states.specs.VariableSaw.{newState, initState}
+use Rattle.variable_saw.specs.Block.{stateIn, parametersIn, rooms, renderOf, Arguments, callOf, moving, usedOf, Phase32}
 use Rattle.variable_saw.specs.Private.{Valid}
 use Rattle.variable_saw.proofs.Keeping.{law-of, keeps}
 use Rattle.variable_saw.proofs.Calls.{valid-of, of-valid}

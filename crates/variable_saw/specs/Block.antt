@@ -8,24 +8,16 @@ use lib.Ieee.{Float, binary32, fits}
 use Rattle.floats.specs.F32.{f32, zero32, half32, topSum}
 use Rattle.parameter_interpolator.specs.declared.ParameterInterpolator.{ParameterInterpolator}
 use Rattle.parameter_interpolator.specs.Interpolator.{newInterpolator}
-use Rattle.block.specs.declared.Room.{Room}
-use Rattle.block.specs.declared.Room.the-variants.{Frequency, PulseWidth, Waveshape}
-use Rattle.block.specs.Targets.{clipped, clampedWidth}
+use Rattle.rooms.specs.declared.Room.{Room}
+use Rattle.rooms.specs.declared.Room.the-variants.{Frequency, PulseWidth, Waveshape}
+use Rattle.ranges.specs.Targets.{clipped, clampedWidth}
 use Rattle.block.specs.Answers.{numberOf, indexOf}
-use Rattle.block.specs.Ranges.{within, phaseIn, frequencyIn, parameterFrequencyIn, unitIn, waveshapeIn}
+use Rattle.ranges.specs.Ranges.{within, phaseIn, frequencyIn, parameterFrequencyIn, unitIn, waveshapeIn}
 use Rattle.block.specs.Calls.{Call, refusal, run}
 use Rattle.block.specs.Account.{usedBy}
-use Rattle.variable_saw.specs.declared.State.{State}
+use Rattle.states.specs.declared.variable_saw.State.{State}
 use Rattle.variable_saw.specs.declared.Rendered.{Rendered}
 use Rattle.variable_saw.specs.Sample.{sampleAt}
-
--- the source's `Default`
-abbrev pub newState : State
-newState = record { phase = zero32; «next_sample» = zero32; «previous_pw» = zero32; high = false; frequency = zero32; pw = zero32; waveshape = zero32 }
-
--- lines 32 to 41; the frequency is 0.01
-abbrev pub initState : State
-initState = record { phase = zero32; «next_sample» = zero32; «previous_pw» = half32; high = false; frequency = f32 0x3c23_d70a; pw = half32; waveshape = zero32 }
 
 -- 01, "State": the phase is at least 0, and below 1 when `high` is false, at most 81/64 when it is true
 abbrev pub sawPhaseIn : Bool → Float → Bool

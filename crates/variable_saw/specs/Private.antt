@@ -10,13 +10,13 @@ use Rattle.floats.proofs.Ticks.{tick, cycle}
 use Rattle.floats.proofs.Ranges.{Under}
 use Rattle.parameter_interpolator.specs.declared.ParameterInterpolator.{ParameterInterpolator}
 use Rattle.block.specs.declared.Answer.{Answer}
-use Rattle.block.specs.declared.Found.the-variants.{Nowhere}
+use Rattle.rooms.specs.declared.Found.the-variants.{Nowhere}
 use Rattle.block.specs.Counting.{noCounts}
-use Rattle.block.specs.Ranges.{frequencyIn, unitIn, waveshapeIn}
-use Rattle.block.specs.Steps.{stepsOf, firstOutside}
+use Rattle.ranges.specs.Ranges.{frequencyIn, unitIn, waveshapeIn}
+use Rattle.rooms.specs.Steps.{stepsOf, firstOutside}
 use Rattle.block.specs.Play.{play}
 use Rattle.block.specs.Calls.{Call, done}
-use Rattle.variable_saw.specs.declared.State.{State}
+use Rattle.states.specs.declared.variable_saw.State.{State}
 use Rattle.variable_saw.specs.declared.Rendered.{Rendered}
 use Rattle.variable_saw.specs.Sample.{sampleAt}
 use Rattle.variable_saw.specs.Block.{rooms}

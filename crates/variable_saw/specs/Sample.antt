@@ -6,10 +6,10 @@ use lib.ListN.{getD}
 use lib.Ieee.{Float, lt, le}
 use Rattle.floats.specs.F32.{_⊕_, _⊖_, _⊗_, _⊘_, f32, zero32, one32, two32}
 use Rattle.polyblep.specs.Polyblep.{thisBlepSample, nextBlepSample, thisIntegratedBlepSample, nextIntegratedBlepSample}
-use Rattle.block.specs.declared.Edge.{Edge}
+use Rattle.edges.specs.declared.Edge.{Edge}
 use Rattle.block.specs.Counting.{oneIf}
 use Rattle.block.specs.Play.{Sample}
-use Rattle.variable_saw.specs.declared.State.{State}
+use Rattle.states.specs.declared.variable_saw.State.{State}
 use Rattle.variable_saw.specs.declared.sample.Wave.{Wave}
 use Rattle.variable_saw.specs.declared.sample.Sampled.{Sampled}
 

@@ -3,59 +3,26 @@ ghost use mathlib.Core.Path.{_≡_};
 ghost use mathlib.Core.List.{[], _∷_};
 ghost use Rattle.block.specs.Calls.{run};
 ghost use Rattle.variable_saw.specs.Sample.{sampleAt};
-ghost use Rattle.variable_saw.specs.Block.{newState, initState, sawPhaseIn, stateIn, parametersIn, rooms, renderOf, left};
+ghost use Rattle.variable_saw.specs.Block.{sawPhaseIn, stateIn, parametersIn, rooms, renderOf, left};
 ghost use Rattle.variable_saw.specs.Private.{Fit, Playable, playedOf, refused};
 use block::Answer;
 use block::Counts;
-use block::Found;
-use block::Room;
 use parameter_interpolator::ParameterInterpolator;
+use rooms::Found;
+use rooms::Room;
 
 mod sample;
 
-pub struct State {
-    pub phase: f32,
-    pub next_sample: f32,
-    pub previous_pw: f32,
-    pub high: bool,
-    pub frequency: f32,
-    pub pw: f32,
-    pub waveshape: f32,
-}
+// The state, its default and its initial value, passed on from `states`.
+pub use states::variable_saw::State;
+pub use states::variable_saw::init;
+pub use states::variable_saw::new;
 
 // What a call gives.
 pub struct Rendered {
     pub answer: Answer,
     pub state: State,
     pub counts: Counts,
-}
-
-pub fn new() -> State
-    ensures { λ r. ⌜ r ≡ newState ⌝ }
-{
-    State {
-        phase: 0.0,
-        next_sample: 0.0,
-        previous_pw: 0.0,
-        high: false,
-        frequency: 0.0,
-        pw: 0.0,
-        waveshape: 0.0,
-    }
-}
-
-pub fn init() -> State
-    ensures { λ r. ⌜ r ≡ initState ⌝ }
-{
-    State {
-        phase: 0.0,
-        next_sample: 0.0,
-        previous_pw: 0.5,
-        high: false,
-        frequency: 0.01,
-        pw: 0.5,
-        waveshape: 0.0,
-    }
 }
 
 // Renders a block into `out`, from the frequency, width and waveshape that the last block ended with to these.
@@ -72,8 +39,8 @@ pub fn render(state: State, frequency: f32, pw: f32, waveshape: f32, out: &mut [
         return refuse(Answer::BadParam, state);
     }
     let n = out.len() as u32;
-    let target = block::targets::clip(frequency);
-    let width = block::targets::clamp_width(target, pw);
+    let target = ranges::targets::clip(frequency);
+    let width = ranges::targets::clamp_width(target, pw);
     let fm = ParameterInterpolator::new(state.frequency, target, n);
     let pwm = ParameterInterpolator::new(state.pw, width, n);
     let waveshape_modulation = ParameterInterpolator::new(state.waveshape, waveshape, n);
@@ -85,9 +52,9 @@ fn saw_phase_in(high: bool, phase: f32) -> bool
     ensures { λ r. ⌜ r ≡ sawPhaseIn high phase ⌝ }
 {
     if high {
-        block::ranges::within(0.0, 1.265625, phase)
+        ranges::within(0.0, 1.265625, phase)
     } else {
-        block::ranges::phase_in(phase)
+        ranges::phase_in(phase)
     }
 }
 
@@ -95,18 +62,16 @@ fn state_in(s: State) -> bool
     ensures { λ r. ⌜ r ≡ stateIn s ⌝ }
 {
     saw_phase_in(s.high, s.phase)
-        & block::ranges::unit_in(s.previous_pw)
-        & block::ranges::frequency_in(s.frequency)
-        & block::ranges::unit_in(s.pw)
-        & block::ranges::waveshape_in(s.waveshape)
+        & ranges::unit_in(s.previous_pw)
+        & ranges::frequency_in(s.frequency)
+        & ranges::unit_in(s.pw)
+        & ranges::waveshape_in(s.waveshape)
 }
 
 fn parameters_in(frequency: f32, pw: f32, waveshape: f32) -> bool
     ensures { λ r. ⌜ r ≡ parametersIn frequency pw waveshape ⌝ }
 {
-    block::ranges::parameter_frequency_in(frequency)
-        & block::ranges::unit_in(pw)
-        & block::ranges::unit_in(waveshape)
+    ranges::parameter_frequency_in(frequency) & ranges::unit_in(pw) & ranges::unit_in(waveshape)
 }
 
 fn refuse(answer: Answer, state: State) -> Rendered
@@ -143,7 +108,7 @@ fn drift_or_play(
         Room::Unused,
         Room::Unused,
     ];
-    match block::first_outside(moving, kept, n) {
+    match rooms::first_outside(moving, kept, n) {
         Found::Outside(i) => refuse(Answer::Drift(i), state),
         Found::Nowhere => play(state, fm, pwm, waveshape_modulation, out),
     }

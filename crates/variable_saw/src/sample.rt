@@ -3,7 +3,7 @@ ghost use mathlib.Core.Path.{_≡_};
 ghost use Rattle.variable_saw.specs.Sample.{waveOf, triangleStep, riseTime, notchSaw, triangle as triangleOf, naive, riseOf, wrapOf, edgeOf, finish as finished, sampleOf};
 use crate::State;
 use block::Counts;
-use block::Edge;
+use edges::Edge;
 
 const VARIABLE_SAW_NOTCH_DEPTH: f32 = 0.2;
 

@@ -8,15 +8,15 @@ use lib.ListN.{length}
 use lib.Ieee.{Float}
 use Rattle.parameter_interpolator.specs.declared.ParameterInterpolator.{ParameterInterpolator}
 use Rattle.block.specs.declared.Answer.the-variants.{LongBlock, BadState, BadParam, Drift}
-use Rattle.block.specs.declared.Room.{Room}
-use Rattle.block.specs.declared.Room.the-variants.{Frequency, PulseWidth, Waveshape}
-use Rattle.block.specs.declared.Found.{Found}
-use Rattle.block.specs.declared.Found.the-variants.{Outside, Nowhere}
-use Rattle.block.specs.Steps.{stepsOf, firstOutside}
+use Rattle.rooms.specs.declared.Room.{Room}
+use Rattle.rooms.specs.declared.Room.the-variants.{Frequency, PulseWidth, Waveshape}
+use Rattle.rooms.specs.declared.Found.{Found}
+use Rattle.rooms.specs.declared.Found.the-variants.{Outside, Nowhere}
+use Rattle.rooms.specs.Steps.{stepsOf, firstOutside}
 use Rattle.block.specs.Calls.{run}
-use Rattle.block.proofs.Padding.{padded}
+use Rattle.rooms.proofs.Padding.{padded}
 use Rattle.block.proofs.Runs.{run-drift, run-done}
-use Rattle.variable_shape.specs.declared.State.{State}
+use Rattle.states.specs.declared.variable_shape.State.{State}
 use Rattle.variable_shape.specs.declared.Rendered.{Rendered}
 use Rattle.variable_shape.specs.declared.steps.Interpolators.{Interpolators}
 use Rattle.variable_shape.specs.Sample.{sampleAt}

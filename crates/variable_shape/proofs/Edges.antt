@@ -7,10 +7,10 @@ use Rattle.floats.specs.F32.{_⊖_, one32}
 use Rattle.floats.proofs.Ticks.{cycle}
 use Rattle.floats.proofs.Turn.{turn-1, turn-sum}
 use Rattle.floats.proofs.Ranges.{Under}
-use Rattle.block.specs.declared.Edge.{Edge}
-use Rattle.block.specs.Sync.{slaveAtReset, wrapOnce, transitionDuringReset, cutEdge}
-use Rattle.block.proofs.Crossings.{Crosses, Going}
-use Rattle.variable_shape.specs.declared.State.{State}
+use Rattle.edges.specs.declared.Edge.{Edge}
+use Rattle.edges.specs.Sync.{slaveAtReset, wrapOnce, transitionDuringReset, cutEdge}
+use Rattle.edges.proofs.Crossings.{Crosses, Going}
+use Rattle.states.specs.declared.variable_shape.State.{State}
 use Rattle.variable_shape.specs.declared.steps.Steps.{Steps}
 use Rattle.variable_shape.specs.declared.waveform.Waveform.{Waveform}
 use Rattle.variable_shape.specs.declared.sample.Sampled.{Sampled}

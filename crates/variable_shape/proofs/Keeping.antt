@@ -12,21 +12,21 @@ use Rattle.floats.proofs.At.{At}
 use Rattle.floats.proofs.Ticks.{tick, cycle, one-at, tick-pos, Sum}
 use Rattle.floats.proofs.Turn.{Step, turn-1, turn-sum, turn-wraps, turn-stays, phase-step}
 use Rattle.floats.proofs.Ranges.{Under, passed-le, failed-le, mul-le, reset-time}
-use Rattle.block.specs.declared.Edge.{Edge}
+use Rattle.edges.specs.declared.Edge.{Edge}
 use Rattle.block.specs.Counting.{oneIf}
-use Rattle.block.specs.declared.Room.the-variants.{Unused}
-use Rattle.block.specs.Ranges.{sixteenIn}
+use Rattle.rooms.specs.declared.Room.the-variants.{Unused}
+use Rattle.ranges.specs.Ranges.{sixteenIn}
 use Rattle.block.specs.Account.{Balanced}
-use Rattle.block.specs.Sync.{transitionDuringReset, slaveAtReset, wrapOnce, cutEdge}
-use Rattle.block.proofs.Bools.{one-most}
-use Rattle.block.proofs.RangeLaws.{under-phase, frequency-step, step-frequency, width-step, step-width}
+use Rattle.edges.specs.Sync.{transitionDuringReset, slaveAtReset, wrapOnce, cutEdge}
+use Rattle.block.proofs.Limits.{one-most}
+use Rattle.rooms.proofs.RangeLaws.{under-phase, frequency-step, step-frequency, width-step, step-width}
 use Rattle.block.proofs.Plays.{Inside, Keeps}
 use Rattle.block.proofs.InsideAt.{inside-at}
 use Rattle.block.proofs.Accounts.{OneSample}
-use Rattle.block.proofs.Crossings.{Crossable, Crossed, crossed-of}
-use Rattle.block.proofs.CrossingsWrap.{Wraps, crossings-wrap}
-use Rattle.block.proofs.CrossingsReset.{cut-crossable, maybe-crossed}
-use Rattle.variable_shape.specs.declared.State.{State}
+use Rattle.edges.proofs.Crossings.{Crossable, Crossed, crossed-of}
+use Rattle.edges.proofs.CrossingsWrap.{Wraps, crossings-wrap}
+use Rattle.edges.proofs.CrossingsReset.{cut-crossable, maybe-crossed}
+use Rattle.states.specs.declared.variable_shape.State.{State}
 use Rattle.variable_shape.specs.declared.steps.Steps.{Steps}
 use Rattle.variable_shape.specs.declared.waveform.Waveform.{Waveform}
 use Rattle.variable_shape.specs.declared.sample.Sampled.{Sampled}

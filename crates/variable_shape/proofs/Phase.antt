@@ -14,13 +14,14 @@ use Rattle.floats.proofs.Ticks.{tick, cycle}
 use Rattle.parameter_interpolator.specs.declared.ParameterInterpolator.{ParameterInterpolator}
 use Rattle.block.specs.Account.{Accounted, chain, usedBy, Balanced}
 use Rattle.block.specs.Calls.{Call, refusal, run}
-use Rattle.block.proofs.Bools.{cond-both, by-test, either-way}
+use Rattle.ranges.proofs.Bools.{cond-both, by-test, either-way}
 use Rattle.block.proofs.Plays.{Few, few-none, Inside}
 use Rattle.block.proofs.Accounts.{OneSample, steps-one, steps-accounted, CallLaw, Untouched, call-accounts, chain-accounts}
 use Rattle.block.proofs.CallLaws.{few-most, not-done, refusal-untouched, refusal-law, run-law, run-few, run-balance}
-use Rattle.variable_shape.specs.declared.State.{State}
+use Rattle.states.specs.declared.variable_shape.State.{State}
 use Rattle.variable_shape.specs.Sample.{stepsAt, sampleAt}
-use Rattle.variable_shape.specs.Block.{newState, initState, stateIn, parametersIn, stepping, rooms, renderOf, countedPhase, countedStep, Arguments, callOf, movingOf, usedOf, Phases32}
+use Rattle.states.specs.VariableShape.{newState, initState}
+use Rattle.variable_shape.specs.Block.{stateIn, parametersIn, stepping, rooms, renderOf, countedPhase, countedStep, Arguments, callOf, movingOf, usedOf, Phases32}
 use Rattle.variable_shape.specs.Private.{Valid}
 use Rattle.variable_shape.proofs.States.{valid-of}
 use Rattle.variable_shape.proofs.Loop.{paired}

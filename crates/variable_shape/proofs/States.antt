@@ -3,10 +3,10 @@ use mathlib.Core.Path.{_≡_}
 use mathlib.Core.Bool.{Bool, true, _&&_}
 use lib.Dec.{T}
 use lib.Ieee.{binary32, fits}
-use Rattle.block.specs.Ranges.{phaseIn, frequencyIn, unitIn, waveshapeIn, sixteenIn}
-use Rattle.block.proofs.Bools.{and-both}
-use Rattle.block.proofs.RangeLaws.{phase-under}
-use Rattle.variable_shape.specs.declared.State.{State}
+use Rattle.ranges.specs.Ranges.{phaseIn, frequencyIn, unitIn, waveshapeIn, sixteenIn}
+use Rattle.ranges.proofs.Bools.{and-both}
+use Rattle.rooms.proofs.RangeLaws.{phase-under}
+use Rattle.states.specs.declared.variable_shape.State.{State}
 use Rattle.variable_shape.specs.Block.{stateIn}
 use Rattle.variable_shape.specs.Private.{Valid}
 

@@ -6,10 +6,10 @@ use lib.Ieee.{Float}
 use Rattle.block.specs.Calls.{Call}
 use Rattle.floats.proofs.Contracts.{coincide}
 use Rattle.block.proofs.Contracts.{same-answer}
-use Rattle.variable_shape.specs.declared.State.{State}
+use Rattle.states.specs.declared.variable_shape.State.{State}
 use Rattle.variable_shape.specs.declared.Rendered.{Rendered}
 use Rattle.variable_shape.specs.declared.PhaseSet.{PhaseSet}
-use Rattle.variable_shape.specs.Block.{newState, initState, renderOf, left}
+use Rattle.variable_shape.specs.Block.{renderOf, left}
 use Rattle.variable_shape.specs.MasterPhase.{Setting, masterPhaseSet, leftSet}
 
 -- two calls with the same arguments: what they return is equal field by field, and so are the buffers that they leave
@@ -30,9 +30,3 @@ tight-set s phase r q h k =
     let answer = same-answer (r .answer) (q .answer) (ap (λ (c : Setting). c .number) e) (ap (λ (c : Setting). c .index) e) in
     let state = ap (λ (c : Setting). c .state) e in
     rw (answer, state)
-
-pub new-tight : (r q : State) → r ≡ newState → q ≡ newState → r ≡ q
-new-tight r q h k = coincide h k
-
-pub init-tight : (r q : State) → r ≡ initState → q ≡ initState → r ≡ q
-init-tight r q h k = coincide h k

@@ -8,47 +8,17 @@ use lib.Ieee.{Float, binary32, fits, neg}
 use Rattle.floats.specs.F32.{f32, zero32, half32, eight32}
 use Rattle.parameter_interpolator.specs.declared.ParameterInterpolator.{ParameterInterpolator}
 use Rattle.parameter_interpolator.specs.Interpolator.{newInterpolator}
-use Rattle.block.specs.declared.Room.{Room}
-use Rattle.block.specs.declared.Room.the-variants.{Frequency, PulseWidth, Waveshape, Sixteen}
-use Rattle.block.specs.Targets.{clipped, clampedWidth}
+use Rattle.rooms.specs.declared.Room.{Room}
+use Rattle.rooms.specs.declared.Room.the-variants.{Frequency, PulseWidth, Waveshape, Sixteen}
+use Rattle.ranges.specs.Targets.{clipped, clampedWidth}
 use Rattle.block.specs.Answers.{numberOf, indexOf}
-use Rattle.block.specs.Ranges.{within, phaseIn, frequencyIn, parameterFrequencyIn, unitIn, waveshapeIn, sixteenIn}
+use Rattle.ranges.specs.Ranges.{within, phaseIn, frequencyIn, parameterFrequencyIn, unitIn, waveshapeIn, sixteenIn}
 use Rattle.block.specs.Calls.{Call, refusal, run}
 use Rattle.block.specs.Account.{usedBy}
-use Rattle.variable_shape.specs.declared.State.{State}
+use Rattle.states.specs.declared.variable_shape.State.{State}
 use Rattle.variable_shape.specs.declared.Rendered.{Rendered}
 use Rattle.variable_shape.specs.declared.steps.Interpolators.{Interpolators}
 use Rattle.variable_shape.specs.Sample.{sampleAt}
-
--- the source's `Default`
-abbrev pub newState : State
-newState = record {
-  «master_phase» = zero32;
-  «slave_phase» = zero32;
-  «next_sample» = zero32;
-  «previous_pw» = zero32;
-  high = false;
-  «master_frequency» = zero32;
-  «slave_frequency» = zero32;
-  pw = zero32;
-  waveshape = zero32;
-  «phase_modulation» = zero32;
-}
-
--- lines 37 to 49; the slave's frequency is 0.01
-abbrev pub initState : State
-initState = record {
-  «master_phase» = zero32;
-  «slave_phase» = zero32;
-  «next_sample» = zero32;
-  «previous_pw» = half32;
-  high = false;
-  «master_frequency» = zero32;
-  «slave_frequency» = f32 0x3c23_d70a;
-  pw = half32;
-  waveshape = zero32;
-  «phase_modulation» = zero32;
-}
 
 -- 01, "State": phases at least 0 and below 1, frequencies 0 to 17/64, widths 0 to 1, waveshape -1 to 2, phase modulation -16 to 16, `next_sample` any bits
 unfoldable pub stateIn : State → Bool

@@ -3,8 +3,8 @@ use mathlib.Core.Bool.{cond}
 use Prim.Native.Nat.{ℕ}
 use lib.Ieee.{Float}
 use Rattle.block.specs.Answers.{numberOf, indexOf}
-use Rattle.block.specs.Ranges.{phaseIn}
-use Rattle.variable_shape.specs.declared.State.{State}
+use Rattle.ranges.specs.Ranges.{phaseIn}
+use Rattle.states.specs.declared.variable_shape.State.{State}
 use Rattle.variable_shape.specs.declared.PhaseSet.{PhaseSet}
 
 -- the answer's number and index, and the state

@@ -11,17 +11,17 @@ use Rattle.floats.proofs.Ranges.{Under, Positive}
 use Rattle.parameter_interpolator.specs.declared.ParameterInterpolator.{ParameterInterpolator}
 use Rattle.parameter_interpolator.specs.Interpolator.{nextInterpolator}
 use Rattle.block.specs.declared.Answer.{Answer}
-use Rattle.block.specs.declared.Edge.{Edge}
-use Rattle.block.specs.declared.Room.{Room}
-use Rattle.block.specs.declared.Room.the-variants.{Unused, Sixteen}
-use Rattle.block.specs.declared.Found.the-variants.{Nowhere}
+use Rattle.edges.specs.declared.Edge.{Edge}
+use Rattle.rooms.specs.declared.Room.{Room}
+use Rattle.rooms.specs.declared.Room.the-variants.{Unused, Sixteen}
+use Rattle.rooms.specs.declared.Found.the-variants.{Nowhere}
 use Rattle.block.specs.Counting.{noCounts}
-use Rattle.block.specs.Ranges.{waveshapeIn, sixteenIn}
-use Rattle.block.specs.Steps.{stepsOf, firstOutside}
+use Rattle.ranges.specs.Ranges.{waveshapeIn, sixteenIn}
+use Rattle.rooms.specs.Steps.{stepsOf, firstOutside}
 use Rattle.block.specs.Play.{play}
 use Rattle.block.specs.Calls.{Call, done}
-use Rattle.block.proofs.Crossings.{Crossable}
-use Rattle.variable_shape.specs.declared.State.{State}
+use Rattle.edges.proofs.Crossings.{Crossable}
+use Rattle.states.specs.declared.variable_shape.State.{State}
 use Rattle.variable_shape.specs.declared.Rendered.{Rendered}
 use Rattle.variable_shape.specs.declared.steps.Interpolators.{Interpolators}
 use Rattle.variable_shape.specs.declared.steps.Steps.{Steps}

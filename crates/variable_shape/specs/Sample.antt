@@ -7,12 +7,12 @@ use lib.Ieee.{Float, le}
 use Rattle.floats.specs.F32.{_⊕_, _⊖_, _⊗_, _⊘_, zero32, half32, one32, two32, four32}
 use Rattle.floats.specs.Helpers.{absOf}
 use Rattle.polyblep.specs.Polyblep.{thisBlepSample, nextBlepSample, thisIntegratedBlepSample, nextIntegratedBlepSample}
-use Rattle.block.specs.declared.Edge.{Edge}
+use Rattle.edges.specs.declared.Edge.{Edge}
 use Rattle.block.specs.Counting.{oneIf}
-use Rattle.block.specs.Crossings.{crossings}
-use Rattle.block.specs.Sync.{resetTime, slaveAtReset, wrapOnce, transitionDuringReset, cutEdge}
+use Rattle.edges.specs.Crossings.{crossings}
+use Rattle.edges.specs.Sync.{resetTime, slaveAtReset, wrapOnce, transitionDuringReset, cutEdge}
 use Rattle.block.specs.Play.{Sample}
-use Rattle.variable_shape.specs.declared.State.{State}
+use Rattle.states.specs.declared.variable_shape.State.{State}
 use Rattle.variable_shape.specs.declared.steps.Steps.{Steps}
 use Rattle.variable_shape.specs.declared.waveform.Waveform.{Waveform}
 use Rattle.variable_shape.specs.declared.sample.Sampled.{Sampled}

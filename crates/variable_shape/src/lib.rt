@@ -2,15 +2,14 @@
 ghost use mathlib.Core.Path.{_≡_};
 ghost use Rattle.block.specs.Calls.{run};
 ghost use Rattle.variable_shape.specs.Sample.{sampleAt};
-ghost use Rattle.variable_shape.specs.Block.{newState, initState, stateIn, parametersIn, stepping, rooms, renderOf, left};
+ghost use Rattle.variable_shape.specs.Block.{stateIn, parametersIn, stepping, rooms, renderOf, left};
 ghost use Rattle.variable_shape.specs.MasterPhase.{masterPhaseSet, leftSet};
 ghost use Rattle.variable_shape.specs.Private.{Fit, Playable, playedOf, refused, modulationRoom};
 use block::Answer;
 use block::Counts;
-use block::Found;
-use block::Room;
-use block::ranges;
 use parameter_interpolator::ParameterInterpolator;
+use rooms::Found;
+use rooms::Room;
 use steps::Interpolators;
 
 mod output;
@@ -18,58 +17,16 @@ mod sample;
 mod steps;
 mod waveform;
 
-pub struct State {
-    pub master_phase: f32,
-    pub slave_phase: f32,
-    pub next_sample: f32,
-    pub previous_pw: f32,
-    pub high: bool,
-    pub master_frequency: f32,
-    pub slave_frequency: f32,
-    pub pw: f32,
-    pub waveshape: f32,
-    pub phase_modulation: f32,
-}
+// The state, its default and its initial value, passed on from `states`.
+pub use states::variable_shape::State;
+pub use states::variable_shape::init;
+pub use states::variable_shape::new;
 
 // What a call gives.
 pub struct Rendered {
     pub answer: Answer,
     pub state: State,
     pub counts: Counts,
-}
-
-pub fn new() -> State
-    ensures { λ r. ⌜ r ≡ newState ⌝ }
-{
-    State {
-        master_phase: 0.0,
-        slave_phase: 0.0,
-        next_sample: 0.0,
-        previous_pw: 0.0,
-        high: false,
-        master_frequency: 0.0,
-        slave_frequency: 0.0,
-        pw: 0.0,
-        waveshape: 0.0,
-        phase_modulation: 0.0,
-    }
-}
-
-pub fn init() -> State
-    ensures { λ r. ⌜ r ≡ initState ⌝ }
-{
-    State {
-        master_phase: 0.0,
-        slave_phase: 0.0,
-        next_sample: 0.0,
-        previous_pw: 0.5,
-        high: false,
-        master_frequency: 0.0,
-        slave_frequency: 0.01,
-        pw: 0.5,
-        waveshape: 0.0,
-        phase_modulation: 0.0,
-    }
 }
 
 // What setting the master's phase gives.
@@ -216,7 +173,7 @@ fn drift_or_play(
         Room::Waveshape,
         modulation_room(phase_output),
     ];
-    match block::first_outside(moving, kept, n) {
+    match rooms::first_outside(moving, kept, n) {
         Found::Outside(i) => refuse(Answer::Drift(i), state),
         Found::Nowhere => play(state, p, sync, phase_output, out),
     }

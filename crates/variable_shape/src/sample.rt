@@ -9,8 +9,7 @@ use crate::steps::Steps;
 use crate::waveform;
 use crate::waveform::Waveform;
 use block::Counts;
-use block::Edge;
-use block::sync;
+use edges::Edge;
 
 pub struct Sampled {
     pub state: State,
@@ -97,10 +96,10 @@ fn reset_edge(s: State, w: Waveform, time: f32) -> Edge
     requires { ⌜ Crossing (edgeOf s (w .«slave_frequency»)) (w .pw) ⌝ }
     ensures { λ r. ⌜ r ≡ resetEdge s w time ⌝ }
 {
-    let reached = sync::slave_at_reset(s.slave_phase, w.slave_frequency, time);
-    let value = waveform::naive(w, sync::wrap_once(reached));
-    let e = sync::cut(edge(s, w.slave_frequency), value, time);
-    if sync::transition_during_reset(s.high, w.pw, reached) {
+    let reached = edges::slave_at_reset(s.slave_phase, w.slave_frequency, time);
+    let value = waveform::naive(w, edges::wrap_once(reached));
+    let e = edges::cut(edge(s, w.slave_frequency), value, time);
+    if edges::transition_during_reset(s.high, w.pw, reached) {
         cross(e, w)
     } else {
         e

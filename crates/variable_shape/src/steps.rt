@@ -3,8 +3,8 @@ ghost use mathlib.Core.Path.{_≡_};
 ghost use Rattle.variable_shape.specs.Block.{interpolatorsOf};
 ghost use Rattle.variable_shape.specs.Private.{nextIf, advanced, valuesOf};
 use crate::State;
-use block::targets;
 use parameter_interpolator::ParameterInterpolator;
+use ranges::targets;
 
 pub struct Interpolators {
     pub master_fm: ParameterInterpolator,

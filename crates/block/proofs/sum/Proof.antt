@@ -1,4 +1,5 @@
 -- `block::sum` meets its contract: each field is a sum that wraps. Assumes nothing.
+use mathlib.Core.Path.{refl}
 use borrow.Author.Needs.{needs}
 use Rattle.block.proofs.sum.Statement.{statement}
 use Rattle.block.proofs.sum.Tie as tie
@@ -16,7 +17,7 @@ wrapping-add-u32-requires-4 : tie.Need-wrapping-add-u32-requires-4
 wrapping-add-u32-requires-4 c κs = search needs
 
 returns : tie.Need-returns
-returns c = cc
+returns c = rw (c .before .before .before .wrapping-add-u32 .ensures, c .before .before .wrapping-add-u322 .ensures, c .before .wrapping-add-u323 .ensures, c .wrapping-add-u324 .ensures) refl
 
 pub sum-spec : {M : Type 1} → statement M
 sum-spec =

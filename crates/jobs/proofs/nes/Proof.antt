@@ -1,5 +1,5 @@
 -- `jobs::nes` meets its contract: a step count of another form is refused. Assumes nothing.
-use mathlib.Core.Path.{sym, ap, _∙_}
+use mathlib.Core.Path.{refl, sym, ap, _∙_}
 use Rattle.jobs.proofs.Plays.{plays, refuses}
 use Rattle.jobs.specs.Record.{stepCountIn, nesOf}
 use borrow.Author.Needs.{needs}
@@ -19,7 +19,7 @@ returns : tie.Need-returns
 unfolding nesOf
 returns c =
     let t = c .before .before in
-    plays (sym (ap stepCountIn (t .before .word-at .ensures)) ∙ sym (t .step-count-in .ensures) ∙ c .before .if1 .taken) (cc)
+    plays (sym (ap stepCountIn (t .before .word-at .ensures)) ∙ sym (t .step-count-in .ensures) ∙ c .before .if1 .taken) (rw (c .float-at .ensures, t .before .word-at .ensures) refl)
 
 returns-2 : tie.Need-returns-2
 unfolding nesOf

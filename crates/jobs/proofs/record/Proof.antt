@@ -1,6 +1,9 @@
 -- `jobs::record` meets its contract: each way out is the definition's. Assumes nothing.
+use mathlib.Core.Path.{refl}
 use borrow.Author.Tests.{lt-ltb, le-ltb, eq-eqb, ne-eqb}
+use Prim.Native.Nat.{_%_}
 use native.Mathlib.Nat.{add-sub-cancel-left}
+use lib.ListN.{length}
 use borrow.Author.Needs.{needs}
 use Rattle.jobs.proofs.record.Statement.{statement}
 use Rattle.jobs.proofs.record.Tie as tie
@@ -15,7 +18,7 @@ part-result-end : tie.Need-part-result-end
 part-result-end c = search needs
 
 returns : tie.Need-returns
-returns c = rw (ne-eqb _ 0 (c .before .if1 .taken))
+returns c = rw (ne-eqb (length (c .before .before .args .list .now) % 64) 0 (c .before .if1 .taken))
 
 sub-result-2 : tie.Need-sub-result-2
 sub-result-2 c = search needs
@@ -45,7 +48,7 @@ part-result-end-3 : tie.Need-part-result-end-3
 part-result-end-3 c = search needs
 
 returns-3 : tie.Need-returns-3
-returns-3 c = rw (eq-eqb _ 0 (c .before .before .if1 .left), lt-ltb _ _ (c .before .if2 .left), add-sub-cancel-left)
+returns-3 c = rw (eq-eqb _ 0 (c .before .before .if1 .left), lt-ltb _ _ (c .before .if2 .left), add-sub-cancel-left) refl
 
 pub record-spec : {M : Type 1} → statement M
 record-spec =

@@ -1,4 +1,5 @@
 -- `jobs::saw` meets its contract. Assumes nothing.
+use mathlib.Core.Path.{refl}
 use Rattle.jobs.specs.Record.{sawOf}
 use borrow.Author.Needs.{needs}
 use Rattle.jobs.proofs.saw.Statement.{statement}
@@ -15,7 +16,7 @@ float-at-requires-3 c κs = search needs
 
 returns : tie.Need-returns
 unfolding sawOf
-returns c = cc
+returns c = rw (c .before .before .float-at .ensures, c .before .float-at2 .ensures, c .float-at3 .ensures) refl
 
 pub saw-spec : {M : Type 1} → statement M
 saw-spec = tie.close (tie.spec float-at-requires float-at-requires-2 float-at-requires-3 returns)

@@ -1,4 +1,5 @@
 -- `jobs::string` meets its contract. Assumes nothing.
+use mathlib.Core.Path.{refl}
 use Rattle.jobs.specs.Record.{stringOf}
 use borrow.Author.Needs.{needs}
 use Rattle.jobs.proofs.string.Statement.{statement}
@@ -12,7 +13,7 @@ float-at-requires-2 c κs = search needs
 
 returns : tie.Need-returns
 unfolding stringOf
-returns c = cc
+returns c = rw (c .before .float-at .ensures, c .float-at2 .ensures) refl
 
 pub string-spec : {M : Type 1} → statement M
 string-spec = tie.close (tie.spec float-at-requires float-at-requires-2 returns)

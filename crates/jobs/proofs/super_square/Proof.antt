@@ -1,4 +1,5 @@
 -- `jobs::super_square` meets its contract. Assumes nothing.
+use mathlib.Core.Path.{refl}
 use Rattle.jobs.specs.Record.{superSquareOf}
 use borrow.Author.Needs.{needs}
 use Rattle.jobs.proofs.super_square.Statement.{statement}
@@ -12,7 +13,7 @@ float-at-requires-2 c κs = search needs
 
 returns : tie.Need-returns
 unfolding superSquareOf
-returns c = cc
+returns c = rw (c .before .float-at .ensures, c .float-at2 .ensures) refl
 
 pub super-square-spec : {M : Type 1} → statement M
 super-square-spec = tie.close (tie.spec float-at-requires float-at-requires-2 returns)

@@ -1,4 +1,5 @@
 -- `nes_triangle::parameters_in` meets its contract. Assumes nothing.
+use mathlib.Core.Path.{refl}
 use Rattle.nes_triangle.specs.Block.{parametersIn}
 use borrow.Author.Needs.{needs}
 use Rattle.nes_triangle.proofs.parameters_in.Statement.{statement}
@@ -12,7 +13,7 @@ bits-in-requires c κs = search needs
 
 returns : tie.Need-returns
 unfolding parametersIn
-returns c = cc
+returns c = rw (c .before .parameter-frequency-in .ensures, c .bits-in .ensures) refl
 
 pub parameters-in-spec : {M : Type 1} → statement M
 parameters-in-spec = tie.close (tie.spec parameter-frequency-in-requires bits-in-requires returns)

@@ -1,4 +1,5 @@
 -- `string_synth::gains_in` meets its contract. Assumes nothing.
+use mathlib.Core.Path.{refl}
 use Rattle.string_synth.specs.Block.{gainsIn}
 use borrow.Author.Needs.{needs}
 use Rattle.string_synth.proofs.gains_in.Statement.{statement}
@@ -18,7 +19,7 @@ sixteen-in-requires-4 c κs = search needs
 
 returns : tie.Need-returns
 unfolding gainsIn
-returns c = cc
+returns c = rw (c .before .before .before .sixteen-in .ensures, c .before .before .sixteen-in2 .ensures, c .before .sixteen-in3 .ensures, c .sixteen-in4 .ensures) refl
 
 pub gains-in-spec : {M : Type 1} → statement M
 gains-in-spec =

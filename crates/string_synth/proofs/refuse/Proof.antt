@@ -1,4 +1,5 @@
 -- `string_synth::refuse` meets its contract. Assumes nothing.
+use mathlib.Core.Path.{refl}
 use borrow.Author.Needs.{needs}
 use Rattle.string_synth.proofs.refuse.Statement.{statement}
 use Rattle.string_synth.proofs.refuse.Tie as tie
@@ -7,7 +8,7 @@ none-requires : tie.Need-none-requires
 none-requires c κs = search needs
 
 returns : tie.Need-returns
-returns c = cc
+returns c = rw (c .none .ensures) refl
 
 pub refuse-spec : {M : Type 1} → statement M
 refuse-spec = tie.close (tie.spec none-requires returns)

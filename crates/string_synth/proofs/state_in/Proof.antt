@@ -1,4 +1,5 @@
 -- `string_synth::state_in` meets its contract. Assumes nothing.
+use mathlib.Core.Path.{refl}
 use Rattle.string_synth.specs.Block.{stateIn}
 use borrow.Author.Needs.{needs}
 use Rattle.string_synth.proofs.state_in.Statement.{statement}
@@ -15,7 +16,7 @@ gains-in-requires c κs = search needs
 
 returns : tie.Need-returns
 unfolding stateIn
-returns c = cc
+returns c = rw (c .before .before .place-in .ensures, c .before .within .ensures, c .gains-in .ensures) refl
 
 pub state-in-spec : {M : Type 1} → statement M
 state-in-spec = tie.close (tie.spec place-in-requires within-requires gains-in-requires returns)

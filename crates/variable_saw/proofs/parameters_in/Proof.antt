@@ -1,4 +1,5 @@
 -- `variable_saw::parameters_in` meets its contract. Assumes nothing.
+use mathlib.Core.Path.{refl}
 use Rattle.variable_saw.specs.Block.{parametersIn}
 use borrow.Author.Needs.{needs}
 use Rattle.variable_saw.proofs.parameters_in.Statement.{statement}
@@ -15,7 +16,7 @@ unit-in-requires-2 c κs = search needs
 
 returns : tie.Need-returns
 unfolding parametersIn
-returns c = cc
+returns c = rw (c .before .before .parameter-frequency-in .ensures, c .before .unit-in .ensures, c .unit-in2 .ensures) refl
 
 pub parameters-in-spec : {M : Type 1} → statement M
 parameters-in-spec =

@@ -1,4 +1,5 @@
 -- `variable_saw::state_in` meets its contract. Assumes nothing.
+use mathlib.Core.Path.{refl}
 use Rattle.variable_saw.specs.Block.{stateIn}
 use borrow.Author.Needs.{needs}
 use Rattle.variable_saw.proofs.state_in.Statement.{statement}
@@ -21,7 +22,7 @@ waveshape-in-requires c κs = search needs
 
 returns : tie.Need-returns
 unfolding stateIn
-returns c = cc
+returns c = rw (c .before .before .before .before .saw-phase-in .ensures, c .before .before .before .unit-in .ensures, c .before .before .frequency-in .ensures, c .before .unit-in2 .ensures, c .waveshape-in .ensures) refl
 
 pub state-in-spec : {M : Type 1} → statement M
 state-in-spec =

@@ -1,5 +1,6 @@
 -- `variable_shape::parameters_in` meets its contract. Assumes nothing.
 use Rattle.variable_shape.specs.Block.{parametersIn}
+use mathlib.Core.Path.{refl}
 use borrow.Author.Needs.{needs}
 use Rattle.variable_shape.proofs.parameters_in.Statement.{statement}
 use Rattle.variable_shape.proofs.parameters_in.Tie as tie
@@ -21,7 +22,7 @@ within-requires c κs = search needs
 
 returns : tie.Need-returns
 unfolding parametersIn
-returns c = cc
+returns c = rw (c .before .before .before .before .parameter-frequency-in .ensures, c .before .before .before .parameter-frequency-in2 .ensures, c .before .before .unit-in .ensures, c .before .unit-in2 .ensures, c .within .ensures) refl
 
 pub parameters-in-spec : {M : Type 1} → statement M
 parameters-in-spec =

@@ -1,5 +1,5 @@
 -- `variable_shape::set_master_phase` meets its contract: each way of the test is the definition's. Assumes nothing.
-use mathlib.Core.Path.{sym, _∙_}
+use mathlib.Core.Path.{refl, sym, _∙_}
 use borrow.Author.Needs.{needs}
 use Rattle.variable_shape.proofs.set_master_phase.Statement.{statement}
 use Rattle.variable_shape.proofs.set_master_phase.Tie as tie
@@ -8,10 +8,10 @@ phase-in-requires : tie.Need-phase-in-requires
 phase-in-requires c κs = search needs
 
 returns : tie.Need-returns
-returns c = rw (sym (c .before .phase-in .ensures) ∙ c .if1 .taken)
+returns c = rw (sym (c .before .phase-in .ensures) ∙ c .if1 .taken) refl
 
 returns-2 : tie.Need-returns-2
-returns-2 c = rw (sym (c .before .phase-in .ensures) ∙ c .if1 .left)
+returns-2 c = rw (sym (c .before .phase-in .ensures) ∙ c .if1 .left) refl
 
 pub set-master-phase-spec : {M : Type 1} → statement M
 set-master-phase-spec = tie.close (tie.spec phase-in-requires returns returns-2)

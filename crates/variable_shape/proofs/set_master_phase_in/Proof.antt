@@ -41,14 +41,14 @@ use denote.Triple.Spec.{Meets, tripleOf}
 use denote.Triple.Table.{entered, cited}
 use denote.Triple.Walked.{says, Stays, stay-ref, stay-none, walkOf, goes-none, goes-ref, Walks, ends-at, walked, walk-meets}
 use denote.Exit.{yes}
-use Rattle.variable_shape.specs.declared.State.{State}
+use Rattle.states.specs.declared.variable_shape.State.{State}
 use Rattle.variable_shape.specs.declared.PhaseSet.{PhaseSet}
 use Rattle.variable_shape.specs.MasterPhase.{masterPhaseSet, leftSet}
 use Rattle.block.specs.declared.Answer.{Answer}
 use Rattle.block.proofs.Answer as E
 use Rattle.block.proofs.Answer.Laws as E′
-use Rattle.variable_shape.proofs.State as T
-use Rattle.variable_shape.proofs.State.Laws as T′
+use Rattle.states.proofs.variable_shape.State as T
+use Rattle.states.proofs.variable_shape.State.Laws as T′
 use Rattle.variable_shape.proofs.PhaseSet as S
 use Rattle.variable_shape.proofs.PhaseSet.Laws as S′
 use Rattle.variable_shape.proofs.set_master_phase as g
@@ -129,8 +129,9 @@ module _ {M : Type 1} (𝓤 : URA M) (H : Heap 𝓤) (A : Atoms 𝓤) (W : Given
         -- [what a PhaseSet owns; the struct's cell; the open borrow; obs; auth; _4; …; _3; …; _2; …; _1; …; room for _0; …; true; true]
         land ! (from ! (stop !)) (init ! 7 refl (LL.lawful S.the-type S′.the-laws 𝓤 H A W .typed r _ is .0)) $
         rewrite ! 7 (λ (u : Val). ‵ (fat fullShare S′.mir l₃ 0 u)) (ap only (LL.tells S.the-type S′.the-laws r (v ∷ []) is)) refl $
-        assigns ! (of-opd ! (load ! (from ! (fld ! refl (stop !))) (look-in ! 7 (sub ! 1 refl (whole !))))) (from ! (hop ! (look ! 11 refl) (stop !))) (store-raw ! 1 refl (LL.lawful T.the-type T′.the-laws 𝓤 H A W .typed (r .state) _ (made r v is) .0)) $
-        assigns ! (of-opd ! (load ! (from ! (fld ! refl (stop !))) (look-in ! 7 (sub ! 0 refl (whole !))))) (from ! (stop !)) (init ! 13 refl (LE.lawful E.the-type E′.the-laws 𝓤 H A W tt .typed (r .answer) _ (answered r v is) .0)) $
+        -- what each statement is to store is given, and not read off the code
+        assigns ! {v = mach (r .state)} (of-opd ! (load ! (from ! (fld ! refl (stop !))) (look-in ! 7 (sub ! 1 refl (whole !))))) (from ! (hop ! (look ! 11 refl) (stop !))) (store-raw ! 1 refl (LL.lawful T.the-type T′.the-laws 𝓤 H A W .typed (r .state) _ (made r v is) .0)) $
+        assigns ! {v = answer-val (r .answer)} (of-opd ! (load ! (from ! (fld ! refl (stop !))) (look-in ! 7 (sub ! 0 refl (whole !))))) (from ! (stop !)) (init ! 13 refl (LE.lawful E.the-type E′.the-laws 𝓤 H A W tt .typed (r .answer) _ (answered r v is) .0)) $
         drop ! $ owned ! T.the-row (Is T.the-row) (LL.makes T.the-type T′.the-plain 𝓤 H A) (r .state) _ (made r v is) $ move ! (1 ∷ 0 ∷ []) $ closes ! tt T.the-row (r .state) (mach (r .state) ∷ []) b o $
         returns ! (look ! 11 refl) $ forget ! 3 refl $ forget ! 5 refl $ forget ! 7 refl $ forget ! 9 refl $ forget ! 11 refl $
         move ! (11 ∷ 12 ∷ []) $ free1 ! $ move ! (9 ∷ 10 ∷ []) $ free1 ! $ move ! (7 ∷ 8 ∷ []) $ free1 ! $ move ! (5 ∷ 6 ∷ []) $ free1 ! $ move ! (3 ∷ 4 ∷ []) $ free1 ! $ free0 ! $

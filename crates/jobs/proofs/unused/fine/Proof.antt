@@ -1,4 +1,5 @@
 -- `jobs::unused::fine` meets its contract. Assumes nothing.
+use mathlib.Core.Path.{refl}
 use borrow.Author.Needs.{needs}
 use Rattle.jobs.proofs.unused.fine.Statement.{statement}
 use Rattle.jobs.proofs.unused.fine.Tie as tie
@@ -7,7 +8,7 @@ used-requires : tie.Need-used-requires
 used-requires c κs = search needs
 
 returns : tie.Need-returns
-returns c = cc
+returns c = rw (c .used .ensures) refl
 
 pub fine-spec : {M : Type 1} → statement M
 fine-spec = tie.close (tie.spec used-requires returns)

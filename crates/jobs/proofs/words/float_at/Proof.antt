@@ -1,4 +1,5 @@
 -- `jobs::words::float_at` meets its contract. Assumes nothing.
+use mathlib.Core.Path.{refl}
 use Rattle.jobs.specs.Words.{floatAt}
 use borrow.Author.Needs.{needs}
 use Rattle.jobs.proofs.words.float_at.Statement.{statement}
@@ -12,7 +13,7 @@ from-bits-requires c κs = search needs
 
 returns : tie.Need-returns
 unfolding floatAt
-returns c = cc
+returns c = rw (c .from-bits .ensures, c .before .word-at .ensures) refl
 
 pub float-at-spec : {M : Type 1} → statement M
 float-at-spec = tie.close (tie.spec word-at-requires from-bits-requires returns)

@@ -1,4 +1,5 @@
 -- `nes_triangle::depth::of_bits` meets its contract. Assumes nothing.
+use mathlib.Core.Path.{refl}
 use lib.Pow.{pow-pos}
 use Rattle.nes_triangle.specs.Depth.{depthOf}
 use Rattle.nes_triangle.proofs.Depths.{two-steps, top-some}
@@ -22,7 +23,7 @@ scale-requires c κs =
 
 returns : tie.Need-returns
 unfolding depthOf
-returns c = rw (c .scale .ensures, c .before .nearest-u32-to-f32 .ensures, c .before .before .top .ensures, c .before .before .before .steps .ensures)
+returns c = rw (c .scale .ensures, c .before .nearest-u32-to-f32 .ensures, c .before .before .top .ensures, c .before .before .before .steps .ensures) refl
 
 pub of-bits-spec : {M : Type 1} → statement M
 of-bits-spec =

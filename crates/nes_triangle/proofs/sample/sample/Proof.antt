@@ -1,4 +1,5 @@
 -- `nes_triangle::sample::sample` meets its contract. Assumes nothing.
+use mathlib.Core.Path.{refl}
 use Rattle.nes_triangle.proofs.Turns.{finishable}
 use Rattle.nes_triangle.specs.Sample.{sampleOf}
 use borrow.Author.Needs.{needs}
@@ -19,7 +20,7 @@ finish-requires c κs = finishable _ _ _ (c .before .before .before .pre) _ (c .
 
 returns : tie.Need-returns
 unfolding sampleOf
-returns c = cc
+returns c = rw (c .finish .ensures, c .before .sound .ensures, c .before .before .fade .ensures, c .before .before .before .advance .ensures) refl
 
 pub sample-spec : {M : Type 1} → statement M
 sample-spec =

@@ -1,4 +1,5 @@
 -- `render::bank::start` meets its contract: every kind starts from `init`. Assumes nothing.
+use mathlib.Core.Path.{refl}
 use borrow.Author.Needs.{needs}
 use Rattle.render.proofs.bank.start.Statement.{statement}
 use Rattle.render.proofs.bank.start.Tie as tie
@@ -19,7 +20,7 @@ init-requires-5 : tie.Need-init-requires-5
 init-requires-5 c κs = search needs
 
 returns : tie.Need-returns
-returns c = cc
+returns c = rw (c .before .before .before .before .init .ensures, c .before .before .before .init2 .ensures, c .before .before .init3 .ensures, c .before .init4 .ensures, c .init5 .ensures) refl
 
 pub start-spec : {M : Type 1} → statement M
 start-spec =

@@ -1,4 +1,5 @@
 -- `render::bank::told` meets its contract. Assumes nothing.
+use mathlib.Core.Path.{refl}
 use borrow.Author.Needs.{needs}
 use Rattle.render.proofs.bank.told.Statement.{statement}
 use Rattle.render.proofs.bank.told.Tie as tie
@@ -10,7 +11,7 @@ index-requires : tie.Need-index-requires
 index-requires c κs = search needs
 
 returns : tie.Need-returns
-returns c = cc
+returns c = rw (c .before .number .ensures, c .index .ensures) refl
 
 pub told-spec : {M : Type 1} → statement M
 told-spec = tie.close (tie.spec number-requires index-requires returns)

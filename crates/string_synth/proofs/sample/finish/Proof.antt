@@ -1,4 +1,5 @@
 -- `string_synth::sample::finish` meets its contract. Assumes nothing.
+use mathlib.Core.Path.{refl}
 use mir.ValLaws.{toZ-pos}
 use mir.Syntax.{w32}
 use lib.Dec.{lit<}
@@ -16,7 +17,7 @@ cast-t5 c = search needs
 
 returns : tie.Need-returns
 unfolding finish
-returns c = cc (toZ-pos w32 _ (lt-of-le-of-lt (c .before .before .before .pre) (lit< tt)))
+returns c = rw (c .before .before .next-sample .ensures, toZ-pos w32 (c .before .before .before .args .e .segment) (lt-of-le-of-lt (c .before .before .before .pre) (lit< tt))) refl
 
 pub finish-spec : {M : Type 1} → statement M
 finish-spec = tie.close (tie.spec next-sample-requires cast-t5 returns)

@@ -1,4 +1,5 @@
 -- `string_synth::sample::sample` meets its contract. Assumes nothing.
+use mathlib.Core.Path.{refl}
 use Rattle.string_synth.proofs.Segments.{reached-small}
 use Rattle.string_synth.specs.Sample.{sampleOf}
 use borrow.Author.Needs.{needs}
@@ -13,7 +14,7 @@ finish-requires c κs = rw (c .reach .ensures) (reached-small _ _)
 
 returns : tie.Need-returns
 unfolding sampleOf
-returns c = cc
+returns c = rw (c .finish .ensures, c .before .reach .ensures) refl
 
 pub sample-spec : {M : Type 1} → statement M
 sample-spec = tie.close (tie.spec reach-requires finish-requires returns)

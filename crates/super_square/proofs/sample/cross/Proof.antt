@@ -4,7 +4,7 @@ use mathlib.Core.Path.{_∙_, sym, subst}
 use native.Mathlib.Omega.{arith}
 use borrow.Author.Tests.{not-true, not-false}
 use Rattle.floats.specs.F32.{half32}
-use Rattle.block.proofs.Crossings.{again, Going, going-start, Rose, stays-high, rises-low, stop-low, stop-high, same-falls, falls-once, again-less, going-on}
+use Rattle.edges.proofs.Crossings.{again, Going, going-start, Rose, stays-high, rises-low, stop-low, stop-high, same-falls, falls-once, again-less, going-on}
 use Rattle.super_square.specs.Sample.{riseOf, fallOf}
 use Rattle.super_square.proofs.Edges.{crosses, half-narrow}
 use Rattle.super_square.proofs.sample.cross.Statement.{statement}

@@ -1,6 +1,6 @@
 -- `super_square::sample::plain_sample` meets its contract. Assumes nothing.
 use mathlib.Core.Path.{refl, sym, subst}
-use Rattle.block.proofs.Crossings.{Crossable}
+use Rattle.edges.proofs.Crossings.{Crossable}
 use Rattle.super_square.specs.Sample.{plainSample}
 use borrow.Author.Needs.{needs}
 use Rattle.super_square.proofs.sample.plain_sample.Statement.{statement}

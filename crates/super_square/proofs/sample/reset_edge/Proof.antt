@@ -1,7 +1,7 @@
 -- `super_square::sample::reset_edge` meets its contract. Assumes nothing.
 use mathlib.Core.Path.{sym, subst}
-use Rattle.block.proofs.Crossings.{Crossable}
-use Rattle.block.proofs.CrossingsReset.{cut-crossable}
+use Rattle.edges.proofs.Crossings.{Crossable}
+use Rattle.edges.proofs.CrossingsReset.{cut-crossable}
 use Rattle.super_square.proofs.Edges.{reset-edge-is}
 use borrow.Author.Needs.{needs}
 use Rattle.super_square.proofs.sample.reset_edge.Statement.{statement}

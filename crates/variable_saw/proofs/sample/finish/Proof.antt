@@ -1,4 +1,5 @@
 -- `variable_saw::sample::finish` meets its contract. Assumes nothing.
+use mathlib.Core.Path.{refl}
 use Rattle.variable_saw.specs.Sample.{finish}
 use borrow.Author.Needs.{needs}
 use Rattle.variable_saw.proofs.sample.finish.Statement.{statement}
@@ -9,7 +10,7 @@ compute-naive-sample-requires c κs = search needs
 
 returns : tie.Need-returns
 unfolding finish
-returns c = cc
+returns c = rw (c .before .before .compute-naive-sample .ensures) refl
 
 pub finish-spec : {M : Type 1} → statement M
 finish-spec = tie.close (tie.spec compute-naive-sample-requires returns)

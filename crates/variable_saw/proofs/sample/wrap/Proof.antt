@@ -1,4 +1,5 @@
 -- `variable_saw::sample::wrap` meets its contract. Assumes nothing.
+use mathlib.Core.Path.{refl}
 use Rattle.variable_saw.specs.Sample.{wrapOf}
 use borrow.Author.Needs.{needs}
 use Rattle.variable_saw.proofs.sample.wrap.Statement.{statement}
@@ -24,7 +25,14 @@ one-if-requires c κs = search needs
 
 returns : tie.Need-returns
 unfolding wrapOf
-returns c = cc
+returns c =
+    let e = c .before in
+    let n = e .before .before in
+    let i = n .before in
+    let b = i .before .before in
+    let s = b .before .before in
+    let p = s .before .before .args in
+    rw (b .this-blep-sample .ensures, i .this-integrated-blep-sample .ensures, n .next-blep-sample .ensures, e .next-integrated-blep-sample .ensures, s .triangle-step .ensures, c .one-if .ensures) (refl {a = wrapOf (p .w) (p .frequency) (p .e)})
 
 pub wrap-spec : {M : Type 1} → statement M
 wrap-spec =

@@ -3,7 +3,7 @@ use mathlib.Core.Logic.{⊎-elim}
 use mathlib.Core.Path.{_∙_, sym, subst}
 use native.Mathlib.Omega.{arith}
 use borrow.Author.Tests.{not-true, not-false}
-use Rattle.block.proofs.Crossings.{again, Going, going-start, Rose, stays-high, rises-low, stop-low, stop-high, same-falls, falls-once, again-less, going-on}
+use Rattle.edges.proofs.Crossings.{again, Going, going-start, Rose, stays-high, rises-low, stop-low, stop-high, same-falls, falls-once, again-less, going-on}
 use Rattle.variable_shape.specs.Sample.{riseOf, fallOf}
 use Rattle.variable_shape.proofs.Edges.{crosses, Looping}
 use Rattle.variable_shape.proofs.sample.cross.Statement.{statement}

@@ -1,5 +1,6 @@
 -- `variable_shape::sample::fall` meets its contract. Assumes nothing.
 use Rattle.variable_shape.specs.Sample.{fallOf}
+use mathlib.Core.Path.{refl}
 use borrow.Author.Needs.{needs}
 use Rattle.variable_shape.proofs.sample.fall.Statement.{statement}
 use Rattle.variable_shape.proofs.sample.fall.Tie as tie
@@ -24,7 +25,11 @@ add-t20 c = search needs
 
 returns : tie.Need-returns
 unfolding fallOf
-returns c = cc
+returns c =
+    let n = c .before .before .before in
+    let t = n .before .before in
+    let b = t .before .before in
+    rw (b .before .before .triangle-step .ensures, b .this-blep-sample .ensures, t .this-integrated-blep-sample .ensures, n .next-blep-sample .ensures, c .before .next-integrated-blep-sample .ensures) refl
 
 pub fall-spec : {M : Type 1} → statement M
 fall-spec =

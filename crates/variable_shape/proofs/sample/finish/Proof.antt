@@ -1,5 +1,6 @@
 -- `variable_shape::sample::finish` meets its contract. Assumes nothing.
 use Rattle.variable_shape.specs.Sample.{finish}
+use mathlib.Core.Path.{refl}
 use borrow.Author.Needs.{needs}
 use Rattle.variable_shape.proofs.sample.finish.Statement.{statement}
 use Rattle.variable_shape.proofs.sample.finish.Tie as tie
@@ -12,7 +13,7 @@ output-requires c κs = search needs
 
 returns : tie.Need-returns
 unfolding finish
-returns c = cc
+returns c = rw (c .before .before .naive .ensures, c .output .ensures) refl
 
 pub finish-spec : {M : Type 1} → statement M
 finish-spec = tie.close (tie.spec naive-requires output-requires returns)

@@ -1,6 +1,7 @@
 -- `variable_shape::sample::plain_sample` meets its contract. Assumes nothing.
 use Rattle.variable_shape.proofs.Edges.{width-crossing}
 use Rattle.variable_shape.specs.Sample.{plainSample}
+use mathlib.Core.Path.{refl}
 use borrow.Author.Needs.{needs}
 use Rattle.variable_shape.proofs.sample.plain_sample.Statement.{statement}
 use Rattle.variable_shape.proofs.sample.plain_sample.Tie as tie
@@ -25,7 +26,7 @@ finish-requires c κs = search needs
 
 returns : tie.Need-returns
 unfolding plainSample
-returns c = cc
+returns c = rw (c .finish .ensures, c .before .free-cycles .ensures, c .before .before .after .ensures, c .before .before .before .cross .ensures, c .before .before .before .before .edge .ensures, c .before .before .before .before .before .at .ensures) refl
 
 pub plain-sample-spec : {M : Type 1} → statement M
 plain-sample-spec =

@@ -1,6 +1,7 @@
 -- `variable_shape::sample::reset_sample` meets its contract. Assumes nothing.
 use Rattle.variable_shape.proofs.Edges.{waveform-crossing}
 use Rattle.variable_shape.specs.Sample.{resetSample}
+use mathlib.Core.Path.{refl}
 use borrow.Author.Needs.{needs}
 use Rattle.variable_shape.proofs.sample.reset_sample.Statement.{statement}
 use Rattle.variable_shape.proofs.sample.reset_sample.Tie as tie
@@ -22,7 +23,7 @@ finish-requires c κs = search needs
 
 returns : tie.Need-returns
 unfolding resetSample
-returns c = cc
+returns c = rw (c .finish .ensures, c .before .one-if .ensures, c .before .before .after .ensures, c .before .before .before .before .reset-edge .ensures, c .before .before .before .before .before .before .at .ensures) refl
 
 pub reset-sample-spec : {M : Type 1} → statement M
 reset-sample-spec =

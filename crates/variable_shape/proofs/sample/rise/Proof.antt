@@ -1,5 +1,6 @@
 -- `variable_shape::sample::rise` meets its contract. Assumes nothing.
 use Rattle.variable_shape.specs.Sample.{riseOf}
+use mathlib.Core.Path.{refl}
 use borrow.Author.Needs.{needs}
 use Rattle.variable_shape.proofs.sample.rise.Statement.{statement}
 use Rattle.variable_shape.proofs.sample.rise.Tie as tie
@@ -24,7 +25,11 @@ add-t17 c = search needs
 
 returns : tie.Need-returns
 unfolding riseOf
-returns c = cc
+returns c =
+    let n = c .before .before .before .before in
+    let t = n .before in
+    let b = t .before .before .before in
+    rw (b .before .triangle-step .ensures, b .this-blep-sample .ensures, t .this-integrated-blep-sample .ensures, n .next-blep-sample .ensures, c .before .next-integrated-blep-sample .ensures) refl
 
 pub rise-spec : {M : Type 1} → statement M
 rise-spec =

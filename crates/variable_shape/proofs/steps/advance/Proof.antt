@@ -1,4 +1,5 @@
 -- `variable_shape::steps::advance` meets its contract. Assumes nothing.
+use mathlib.Core.Path.{refl}
 use borrow.Author.Needs.{needs}
 use Rattle.variable_shape.proofs.steps.advance.Statement.{statement}
 use Rattle.variable_shape.proofs.steps.advance.Tie as tie
@@ -19,7 +20,7 @@ next-if-requires : tie.Need-next-if-requires
 next-if-requires c κs = search needs
 
 returns : tie.Need-returns
-returns c = cc
+returns c = rw (c .before .before .before .before .next .ensures, c .before .before .before .next2 .ensures, c .before .before .next3 .ensures, c .before .next4 .ensures, c .next-if .ensures) refl
 
 pub advance-spec : {M : Type 1} → statement M
 advance-spec =

@@ -1,5 +1,6 @@
 -- `variable_shape::waveform::at` meets its contract. Assumes nothing.
 use Rattle.variable_shape.specs.Waveform.{waveformOf}
+use mathlib.Core.Path.{refl}
 use borrow.Author.Needs.{needs}
 use Rattle.variable_shape.proofs.waveform.at.Statement.{statement}
 use Rattle.variable_shape.proofs.waveform.at.Tie as tie
@@ -12,7 +13,7 @@ max-requires-2 c κs = search needs
 
 returns : tie.Need-returns
 unfolding waveformOf
-returns c = cc
+returns c = rw (c .before .before .before .before .max .ensures, c .before .before .max2 .ensures) refl
 
 pub at-spec : {M : Type 1} → statement M
 at-spec = tie.close (tie.spec max-requires max-requires-2 returns)

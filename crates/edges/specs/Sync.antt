@@ -1,0 +1,34 @@
+-- A hard sync reset, which super_square_oscillator.rs (lines 73 to 93) and variable_shape_oscillator.rs (lines 114 to 138) share: the master
+-- has wrapped `time` samples ago, and the slave starts anew. Assumes nothing.
+use mathlib.Core.Bool.{Bool, not, _&&_, _||_, cond}
+use lib.Ieee.{Float, le}
+use Rattle.floats.specs.F32.{_⊕_, _⊖_, _⊗_, _⊘_, one32}
+use Rattle.polyblep.specs.Polyblep.{thisBlepSample, nextBlepSample}
+use Rattle.edges.specs.declared.Edge.{Edge}
+
+-- how many samples ago the master wrapped, from its phase after the wrap and its step
+abbrev pub resetTime : Float → Float → Float
+resetTime masterPhase masterFrequency = masterPhase ⊘ masterFrequency
+
+-- where the slave's phase had come to at the reset, before it is wrapped
+abbrev pub slaveAtReset : Float → Float → Float → Float
+slaveAtReset slavePhase slaveFrequency time = slavePhase ⊕ (one32 ⊖ time) ⊗ slaveFrequency
+
+-- a phase that has come to 1 starts again
+abbrev pub wrapOnce : Float → Float
+wrapOnce phase = cond (le one32 phase) (phase ⊖ one32) phase
+
+-- whether the slave has wrapped by then, or a low one come to its width
+abbrev pub transitionDuringReset : Bool → Float → Float → Bool
+transitionDuringReset high width reached = le one32 reached || (not high && le width (wrapOnce reached))
+
+-- what the reset takes off, for a waveform that stood at `value`
+abbrev pub cutEdge : Float → Float → Edge → Edge
+cutEdge value time e = record {
+  phase = e .phase;
+  high = e .high;
+  «this_sample» = e .«this_sample» ⊖ value ⊗ thisBlepSample time;
+  «next_sample» = e .«next_sample» ⊖ value ⊗ nextBlepSample time;
+  rises = e .rises;
+  falls = e .falls;
+}

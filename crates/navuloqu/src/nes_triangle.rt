@@ -1,0 +1,23 @@
+// The NES triangle for other languages.
+ghost use mathlib.Core.Path.{_≡_};
+ghost use Rattle.nes_triangle_face.specs.Words.{initWords, renderFace};
+
+#[no_mangle]
+pub extern "C" fn navuloqu_nes_triangle_init(words: &mut [u32; 5])
+    ensures { λ r. ⌜ now (words .exit) ≡ initWords ⌝ }
+{
+    nes_triangle_face::init(words);
+}
+
+#[no_mangle]
+pub extern "C" fn navuloqu_nes_triangle_render(
+    words: &mut [u32; 5],
+    frequency: f32,
+    num_bits: u32,
+    out: &mut [f32],
+    result: &mut [u32; 6],
+)
+    ensures { λ r. ⌜ record { words = now (words .exit); result = now (result .exit); samples = now (out .exit) } ≡ renderFace (now (words .entry)) frequency «num_bits» (now (out .entry)) ⌝ }
+{
+    nes_triangle_face::render(words, frequency, num_bits, out, result);
+}

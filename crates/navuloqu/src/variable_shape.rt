@@ -1,0 +1,46 @@
+// The variable shape for other languages.
+ghost use mathlib.Core.Path.{_≡_};
+ghost use Rattle.variable_shape_face.specs.Words.{initWords, renderFace, setFace};
+
+#[no_mangle]
+pub extern "C" fn navuloqu_variable_shape_init(words: &mut [u32; 10])
+    ensures { λ r. ⌜ now (words .exit) ≡ initWords ⌝ }
+{
+    variable_shape_face::init(words);
+}
+
+#[no_mangle]
+pub extern "C" fn navuloqu_variable_shape_render(
+    words: &mut [u32; 10],
+    master_frequency: f32,
+    frequency: f32,
+    pw: f32,
+    waveshape: f32,
+    phase_modulation: f32,
+    sync: bool,
+    phase_output: bool,
+    out: &mut [f32],
+    result: &mut [u32; 6],
+)
+    ensures { λ r. ⌜ record { words = now (words .exit); result = now (result .exit); samples = now (out .exit) } ≡ renderFace (now (words .entry)) «master_frequency» frequency pw waveshape «phase_modulation» sync «phase_output» (now (out .entry)) ⌝ }
+{
+    variable_shape_face::render(
+        words,
+        master_frequency,
+        frequency,
+        pw,
+        waveshape,
+        phase_modulation,
+        sync,
+        phase_output,
+        out,
+        result,
+    );
+}
+
+#[no_mangle]
+pub extern "C" fn navuloqu_variable_shape_set_master_phase(words: &mut [u32; 10], phase: f32) -> u32
+    ensures { λ r. ⌜ record { words = now (words .exit); number = r } ≡ setFace (now (words .entry)) phase ⌝ }
+{
+    variable_shape_face::set_master_phase(words, phase)
+}

@@ -1,0 +1,2 @@
+-- Two outcomes of a call coincide.
+pub mod Tight

@@ -1,0 +1,62 @@
+// The NES triangle over lent arrays of 32-bit words, for the face.
+ghost use mathlib.Core.Path.{_≡_};
+ghost use mathlib.Core.Bool.{cond};
+ghost use lib.Dec.{eqb};
+ghost use Rattle.nes_triangle_face.specs.Words.{stateOf, wordsOf, initWords, renderFace};
+use nes_triangle::State;
+
+fn state_of(w: [u32; 5]) -> State
+    ensures { λ r. ⌜ r ≡ stateOf w ⌝ }
+{
+    State {
+        phase: words::phase_beside(w[3], w[0]),
+        next_sample: floats::from_bits(w[1]),
+        step: words::signed(w[2]),
+        ascending: w[3] == 1,
+        frequency: floats::from_bits(w[4]),
+    }
+}
+
+fn words_of(s: State) -> [u32; 5]
+    ensures { λ r. ⌜ r ≡ wordsOf s ⌝ }
+{
+    [
+        floats::to_bits(s.phase),
+        floats::to_bits(s.next_sample),
+        words::unsigned(s.step),
+        block::one_if(s.ascending),
+        floats::to_bits(s.frequency),
+    ]
+}
+
+// Stores the words after an answered call only.
+fn store(words: &mut [u32; 5], number: u32, after: [u32; 5])
+    ensures { λ r. ⌜ now (words .exit) ≡ cond (eqb number 0) after (now (words .entry)) ⌝ }
+{
+    if number == 0 {
+        *words = after;
+    }
+}
+
+pub fn init(words: &mut [u32; 5])
+    ensures { λ r. ⌜ now (words .exit) ≡ initWords ⌝ }
+{
+    *words = words_of(nes_triangle::init());
+}
+
+pub fn render(
+    words: &mut [u32; 5],
+    frequency: f32,
+    num_bits: u32,
+    out: &mut [f32],
+    result: &mut [u32; 6],
+)
+    ensures { λ r. ⌜ record { words = now (words .exit); result = now (result .exit); samples = now (out .exit) } ≡ renderFace (now (words .entry)) frequency «num_bits» (now (out .entry)) ⌝ }
+{
+    let r = nes_triangle::render(state_of(*words), frequency, num_bits, out);
+    let answer = r.answer;
+    let counts = r.counts;
+    let state = r.state;
+    *result = words::result_of(answer, counts);
+    store(words, block::number(answer), words_of(state));
+}

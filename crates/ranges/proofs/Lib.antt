@@ -1,0 +1,3 @@
+-- Bools that tests join.
+pub mod Bools
+pub mod Tight

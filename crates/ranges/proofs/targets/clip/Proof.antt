@@ -1,0 +1,13 @@
+-- `ranges::targets::clip` meets its contract: each way of the test is the definition's. Assumes nothing.
+use Rattle.floats.proofs.Choices.{chosen, other}
+use Rattle.ranges.proofs.targets.clip.Statement.{statement}
+use Rattle.ranges.proofs.targets.clip.Tie as tie
+
+returns : tie.Need-returns
+returns c = chosen _ _ _ (c .if1 .taken)
+
+returns-2 : tie.Need-returns-2
+returns-2 c = other _ _ _ (c .if1 .left)
+
+pub clip-spec : {M : Type 1} → statement M
+clip-spec = tie.close (tie.spec returns returns-2)

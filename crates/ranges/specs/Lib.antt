@@ -1,0 +1,3 @@
+-- What states and parameters lie within, and what a parameter becomes.
+pub mod Ranges
+pub mod Targets

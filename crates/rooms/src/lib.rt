@@ -1,0 +1,56 @@
+// The rooms of 01 by kind of parameter, and the walk that looks for the first step outside its room.
+ghost use mathlib.Core.Path.{_≡_};
+ghost use Rattle.rooms.specs.Rooms.{inRoom};
+ghost use Rattle.rooms.specs.Steps.{stepsOf, firstOutside};
+use parameter_interpolator::ParameterInterpolator;
+
+// What a parameter's steps are kept within. An unused one has no steps to test.
+pub enum Room {
+    Unused,
+    Frequency,
+    StringFrequency,
+    PulseWidth,
+    Waveshape,
+    Sixteen,
+}
+
+pub fn in_room(room: Room, x: f32) -> bool
+    ensures { λ r. ⌜ r ≡ inRoom room x ⌝ }
+{
+    match room {
+        Room::Unused => true,
+        Room::Frequency => (x > 0.0) & (x <= 0.265625),
+        Room::StringFrequency => (x > 0.0) & (x <= 0.53125),
+        Room::PulseWidth => (x > 0.0) & (x < 1.0),
+        Room::Waveshape => (x >= -1.0) & (x <= 2.0),
+        Room::Sixteen => (x >= -16.0) & (x <= 16.0),
+    }
+}
+
+pub enum Found {
+    Outside(u32),
+    Nowhere,
+}
+
+// The walk over samples and parameters, which stops at the first step outside its room.
+pub fn first_outside(interpolators: [ParameterInterpolator; 5], rooms: [Room; 5], n: u32) -> Found
+    ensures { λ r. ⌜ r ≡ firstOutside rooms (stepsOf n interpolators) ⌝ }
+{
+    let mut moving = interpolators;
+    let mut i = 0;
+    'walk: loop {
+        if i >= n {
+            break 'walk Found::Nowhere;
+        }
+        let mut k = 0;
+        while k < 5 {
+            let p = moving[k].next();
+            moving[k] = p;
+            if !in_room(rooms[k], p.value) {
+                break 'walk Found::Outside(i);
+            }
+            k += 1;
+        }
+        i += 1;
+    }
+}

@@ -1,0 +1,54 @@
+-- `string_synth_face::render` meets its contract: the string synth's own call, put into words. Assumes nothing.
+use mathlib.Core.Path.{_∙_, refl, ap}
+use Rattle.states.specs.declared.string_synth.State.{State}
+use Rattle.string_synth.specs.Block.{renderOf, left}
+use Rattle.words.proofs.Faces.{face-is}
+use borrow.Author.Needs.{needs}
+use Rattle.string_synth_face.proofs.render.Statement.{statement}
+use Rattle.string_synth_face.proofs.render.Tie as tie
+
+state-of-requires : tie.Need-state-of-requires
+state-of-requires c κs = search needs
+
+render-requires : tie.Need-render-requires
+render-requires c κs = search needs
+
+result-of-requires : tie.Need-result-of-requires
+result-of-requires c κs = search needs
+
+number-requires : tie.Need-number-requires
+number-requires c κs = search needs
+
+words-of-requires : tie.Need-words-of-requires
+words-of-requires c κs = search needs
+
+store-requires : tie.Need-store-requires
+store-requires c κs = search needs
+
+same-length : tie.Need-same-length
+same-length c = search needs
+
+returns : tie.Need-returns
+returns c =
+    let w = c .before in
+    let n = w .before in
+    let q = n .before .before in
+    let r = q .before .before .before .before .before in
+    let s = r .before .before in
+    let a = s .before .before .before .before .args in
+    face-is _ _ _ _ _ _ _ (left (r .render .result) (r .render .last .1 .1 .1 .1 .0)) _
+    (r .render .ensures ∙ ap (λ (t : State). renderOf t (a .frequency) (a .registration .now) (a .gain) (a .out .now)) (s .state-of .ensures))
+    (n .number .ensures) (w .words-of .ensures) (c .store .ensures) (q .result-of .ensures) refl
+
+pub render-spec : {M : Type 1} → statement M
+render-spec =
+    tie.close
+    (tie.spec
+    state-of-requires
+    render-requires
+    result-of-requires
+    number-requires
+    words-of-requires
+    store-requires
+    same-length
+    returns)

@@ -1,0 +1,69 @@
+// The string synth over lent arrays of 32-bit words, for the face.
+ghost use mathlib.Core.Path.{_≡_};
+ghost use mathlib.Core.Bool.{cond};
+ghost use lib.Dec.{eqb};
+ghost use Rattle.string_synth_face.specs.Words.{stateOf, wordsOf, initWords, renderFace};
+use string_synth::State;
+
+fn state_of(w: [u32; 8]) -> State
+    ensures { λ r. ⌜ r ≡ stateOf w ⌝ }
+{
+    State {
+        phase: floats::from_bits(w[0]),
+        next_sample: floats::from_bits(w[1]),
+        segment: words::signed(w[2]),
+        frequency: floats::from_bits(w[3]),
+        saw_8_gain: floats::from_bits(w[4]),
+        saw_4_gain: floats::from_bits(w[5]),
+        saw_2_gain: floats::from_bits(w[6]),
+        saw_1_gain: floats::from_bits(w[7]),
+    }
+}
+
+fn words_of(s: State) -> [u32; 8]
+    ensures { λ r. ⌜ r ≡ wordsOf s ⌝ }
+{
+    [
+        floats::to_bits(s.phase),
+        floats::to_bits(s.next_sample),
+        words::unsigned(s.segment),
+        floats::to_bits(s.frequency),
+        floats::to_bits(s.saw_8_gain),
+        floats::to_bits(s.saw_4_gain),
+        floats::to_bits(s.saw_2_gain),
+        floats::to_bits(s.saw_1_gain),
+    ]
+}
+
+// Stores the words after an answered call only.
+fn store(words: &mut [u32; 8], number: u32, after: [u32; 8])
+    ensures { λ r. ⌜ now (words .exit) ≡ cond (eqb number 0) after (now (words .entry)) ⌝ }
+{
+    if number == 0 {
+        *words = after;
+    }
+}
+
+pub fn init(words: &mut [u32; 8])
+    ensures { λ r. ⌜ now (words .exit) ≡ initWords ⌝ }
+{
+    *words = words_of(string_synth::init());
+}
+
+pub fn render(
+    words: &mut [u32; 8],
+    frequency: f32,
+    registration: &[f32],
+    gain: f32,
+    out: &mut [f32],
+    result: &mut [u32; 6],
+)
+    ensures { λ r. ⌜ record { words = now (words .exit); result = now (result .exit); samples = now (out .exit) } ≡ renderFace (now (words .entry)) frequency (now (registration .entry)) gain (now (out .entry)) ⌝ }
+{
+    let r = string_synth::render(state_of(*words), frequency, registration, gain, out);
+    let answer = r.answer;
+    let counts = r.counts;
+    let state = r.state;
+    *result = words::result_of(answer, counts);
+    store(words, block::number(answer), words_of(state));
+}

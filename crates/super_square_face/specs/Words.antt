@@ -1,0 +1,40 @@
+-- The super square's state as six words, in the order of its fields. Assumes nothing.
+use mathlib.Core.Bool.{cond}
+use mathlib.Core.List.{List, [], _∷_}
+use Prim.Native.Nat.{ℕ}
+use lib.Dec.{eqb, ltb}
+use lib.ListN.{getD}
+use lib.Ieee.{Float, neg}
+use Rattle.floats.specs.F32.{f32, one32}
+use Rattle.block.specs.Counting.{oneIf}
+use Rattle.states.specs.declared.super_square.State.{State}
+use Rattle.states.specs.SuperSquare.{initState}
+use Rattle.super_square.specs.Block.{renderOf}
+use Rattle.words.specs.Face.{Face, faceOf, bitsOf}
+
+-- a word for `high` that is neither 0 nor 1 puts the master's phase outside its range, so that the state is refused as 3
+unfoldable pub stateOf : List ℕ → State
+stateOf w = record {
+  «master_phase» = cond (ltb 1 (getD w 3 0)) (neg one32) (f32 (getD w 0 0));
+  «slave_phase» = f32 (getD w 1 0);
+  «next_sample» = f32 (getD w 2 0);
+  high = eqb (getD w 3 0) 1;
+  «master_frequency» = f32 (getD w 4 0);
+  «slave_frequency» = f32 (getD w 5 0);
+}
+
+unfoldable pub wordsOf : State → List ℕ
+wordsOf s =
+    bitsOf (s .«master_phase»)
+    ∷ bitsOf (s .«slave_phase»)
+    ∷ bitsOf (s .«next_sample»)
+    ∷ oneIf (s .high)
+    ∷ bitsOf (s .«master_frequency»)
+    ∷ bitsOf (s .«slave_frequency»)
+    ∷ []
+
+abbrev pub initWords : List ℕ
+initWords = wordsOf initState
+
+abbrev pub renderFace : List ℕ → Float → Float → List Float → Face
+renderFace w frequency shape xs = faceOf wordsOf w (renderOf (stateOf w) frequency shape xs)

@@ -1,0 +1,64 @@
+// The super square over lent arrays of 32-bit words, for the face.
+ghost use mathlib.Core.Path.{_≡_};
+ghost use mathlib.Core.Bool.{cond};
+ghost use lib.Dec.{eqb};
+ghost use Rattle.super_square_face.specs.Words.{stateOf, wordsOf, initWords, renderFace};
+use super_square::State;
+
+fn state_of(w: [u32; 6]) -> State
+    ensures { λ r. ⌜ r ≡ stateOf w ⌝ }
+{
+    State {
+        master_phase: words::phase_beside(w[3], w[0]),
+        slave_phase: floats::from_bits(w[1]),
+        next_sample: floats::from_bits(w[2]),
+        high: w[3] == 1,
+        master_frequency: floats::from_bits(w[4]),
+        slave_frequency: floats::from_bits(w[5]),
+    }
+}
+
+fn words_of(s: State) -> [u32; 6]
+    ensures { λ r. ⌜ r ≡ wordsOf s ⌝ }
+{
+    [
+        floats::to_bits(s.master_phase),
+        floats::to_bits(s.slave_phase),
+        floats::to_bits(s.next_sample),
+        block::one_if(s.high),
+        floats::to_bits(s.master_frequency),
+        floats::to_bits(s.slave_frequency),
+    ]
+}
+
+// Stores the words after an answered call only.
+fn store(words: &mut [u32; 6], number: u32, after: [u32; 6])
+    ensures { λ r. ⌜ now (words .exit) ≡ cond (eqb number 0) after (now (words .entry)) ⌝ }
+{
+    if number == 0 {
+        *words = after;
+    }
+}
+
+pub fn init(words: &mut [u32; 6])
+    ensures { λ r. ⌜ now (words .exit) ≡ initWords ⌝ }
+{
+    *words = words_of(super_square::init());
+}
+
+pub fn render(
+    words: &mut [u32; 6],
+    frequency: f32,
+    shape: f32,
+    out: &mut [f32],
+    result: &mut [u32; 6],
+)
+    ensures { λ r. ⌜ record { words = now (words .exit); result = now (result .exit); samples = now (out .exit) } ≡ renderFace (now (words .entry)) frequency shape (now (out .entry)) ⌝ }
+{
+    let r = super_square::render(state_of(*words), frequency, shape, out);
+    let answer = r.answer;
+    let counts = r.counts;
+    let state = r.state;
+    *result = words::result_of(answer, counts);
+    store(words, block::number(answer), words_of(state));
+}

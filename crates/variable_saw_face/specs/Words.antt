@@ -1,0 +1,42 @@
+-- The variable saw's state as seven words, in the order of its fields. Assumes nothing.
+use mathlib.Core.Bool.{cond}
+use mathlib.Core.List.{List, [], _∷_}
+use Prim.Native.Nat.{ℕ}
+use lib.Dec.{eqb, ltb}
+use lib.ListN.{getD}
+use lib.Ieee.{Float, neg}
+use Rattle.floats.specs.F32.{f32, one32}
+use Rattle.block.specs.Counting.{oneIf}
+use Rattle.states.specs.declared.variable_saw.State.{State}
+use Rattle.states.specs.VariableSaw.{initState}
+use Rattle.variable_saw.specs.Block.{renderOf}
+use Rattle.words.specs.Face.{Face, faceOf, bitsOf}
+
+-- a word for `high` that is neither 0 nor 1 puts the phase outside its range, so that the state is refused as 3
+unfoldable pub stateOf : List ℕ → State
+stateOf w = record {
+  phase = cond (ltb 1 (getD w 3 0)) (neg one32) (f32 (getD w 0 0));
+  «next_sample» = f32 (getD w 1 0);
+  «previous_pw» = f32 (getD w 2 0);
+  high = eqb (getD w 3 0) 1;
+  frequency = f32 (getD w 4 0);
+  pw = f32 (getD w 5 0);
+  waveshape = f32 (getD w 6 0);
+}
+
+unfoldable pub wordsOf : State → List ℕ
+wordsOf s =
+    bitsOf (s .phase)
+    ∷ bitsOf (s .«next_sample»)
+    ∷ bitsOf (s .«previous_pw»)
+    ∷ oneIf (s .high)
+    ∷ bitsOf (s .frequency)
+    ∷ bitsOf (s .pw)
+    ∷ bitsOf (s .waveshape)
+    ∷ []
+
+abbrev pub initWords : List ℕ
+initWords = wordsOf initState
+
+abbrev pub renderFace : List ℕ → Float → Float → Float → List Float → Face
+renderFace w frequency pw waveshape xs = faceOf wordsOf w (renderOf (stateOf w) frequency pw waveshape xs)

@@ -1,0 +1,67 @@
+// The variable saw over lent arrays of 32-bit words, for the face.
+ghost use mathlib.Core.Path.{_≡_};
+ghost use mathlib.Core.Bool.{cond};
+ghost use lib.Dec.{eqb};
+ghost use Rattle.variable_saw_face.specs.Words.{stateOf, wordsOf, initWords, renderFace};
+use variable_saw::State;
+
+fn state_of(w: [u32; 7]) -> State
+    ensures { λ r. ⌜ r ≡ stateOf w ⌝ }
+{
+    State {
+        phase: words::phase_beside(w[3], w[0]),
+        next_sample: floats::from_bits(w[1]),
+        previous_pw: floats::from_bits(w[2]),
+        high: w[3] == 1,
+        frequency: floats::from_bits(w[4]),
+        pw: floats::from_bits(w[5]),
+        waveshape: floats::from_bits(w[6]),
+    }
+}
+
+fn words_of(s: State) -> [u32; 7]
+    ensures { λ r. ⌜ r ≡ wordsOf s ⌝ }
+{
+    [
+        floats::to_bits(s.phase),
+        floats::to_bits(s.next_sample),
+        floats::to_bits(s.previous_pw),
+        block::one_if(s.high),
+        floats::to_bits(s.frequency),
+        floats::to_bits(s.pw),
+        floats::to_bits(s.waveshape),
+    ]
+}
+
+// Stores the words after an answered call only.
+fn store(words: &mut [u32; 7], number: u32, after: [u32; 7])
+    ensures { λ r. ⌜ now (words .exit) ≡ cond (eqb number 0) after (now (words .entry)) ⌝ }
+{
+    if number == 0 {
+        *words = after;
+    }
+}
+
+pub fn init(words: &mut [u32; 7])
+    ensures { λ r. ⌜ now (words .exit) ≡ initWords ⌝ }
+{
+    *words = words_of(variable_saw::init());
+}
+
+pub fn render(
+    words: &mut [u32; 7],
+    frequency: f32,
+    pw: f32,
+    waveshape: f32,
+    out: &mut [f32],
+    result: &mut [u32; 6],
+)
+    ensures { λ r. ⌜ record { words = now (words .exit); result = now (result .exit); samples = now (out .exit) } ≡ renderFace (now (words .entry)) frequency pw waveshape (now (out .entry)) ⌝ }
+{
+    let r = variable_saw::render(state_of(*words), frequency, pw, waveshape, out);
+    let answer = r.answer;
+    let counts = r.counts;
+    let state = r.state;
+    *result = words::result_of(answer, counts);
+    store(words, block::number(answer), words_of(state));
+}

@@ -1,0 +1,17 @@
+-- `variable_shape_face::store_first` meets its contract. Assumes nothing.
+use borrow.Author.Tests.{eq-eqb, ne-eqb}
+use borrow.Author.Needs.{needs}
+use Rattle.variable_shape_face.proofs.store_first.Statement.{statement}
+use Rattle.variable_shape_face.proofs.store_first.Tie as tie
+
+element-write-words : tie.Need-element-write-words
+element-write-words c = search needs
+
+returns : tie.Need-returns
+returns c = rw (eq-eqb _ 0 (c .if1 .taken))
+
+returns-2 : tie.Need-returns-2
+returns-2 c = rw (ne-eqb _ 0 (c .if1 .left))
+
+pub store-first-spec : {M : Type 1} → statement M
+store-first-spec = tie.close (tie.spec element-write-words returns returns-2)

@@ -1,0 +1,19 @@
+-- `words::phase_beside` meets its contract: each way of the test is the definition's. Assumes nothing.
+use mathlib.Core.Path.{_∙_}
+use borrow.Author.Needs.{needs}
+use borrow.Author.Tests.{lt-ltb, le-ltb}
+use Rattle.floats.proofs.Choices.{chosen, other}
+use Rattle.words.proofs.phase_beside.Statement.{statement}
+use Rattle.words.proofs.phase_beside.Tie as tie
+
+from-bits-requires : tie.Need-from-bits-requires
+from-bits-requires c κs = search needs
+
+returns : tie.Need-returns
+returns c = chosen _ _ _ (lt-ltb 1 _ (c .if1 .taken))
+
+returns-2 : tie.Need-returns-2
+returns-2 c = c .from-bits .ensures ∙ other _ _ _ (le-ltb 1 _ (c .before .if1 .left))
+
+pub phase-beside-spec : {M : Type 1} → statement M
+phase-beside-spec = tie.close (tie.spec from-bits-requires returns returns-2)

@@ -1,0 +1,2 @@
+-- What a call from another language leaves.
+pub mod Face
