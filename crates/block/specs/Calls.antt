@@ -4,10 +4,12 @@ use Prim.Native.Nat.{ℕ}
 use lib.ListN.{length}
 use lib.Ieee.{Float}
 use Rattle.parameter_interpolator.specs.declared.ParameterInterpolator.{ParameterInterpolator}
+use Rattle.block.specs.declared.Answer.{Answer}
 use Rattle.block.specs.declared.Counts.{Counts}
 use Rattle.rooms.specs.declared.Room.{Room}
 use Rattle.rooms.specs.declared.Found.{Found}
 use Rattle.rooms.specs.declared.Found.the-variants.{Outside, Nowhere}
+use Rattle.block.specs.Answers.{numberOf, indexOf}
 use Rattle.block.specs.Counting.{noCounts}
 use Rattle.rooms.specs.Steps.{stepsOf, firstOutside}
 use Rattle.block.specs.Play.{Sample, Heard, play}
@@ -19,6 +21,10 @@ pub record Call (S : Type 0) : Type 0 where
   pub state : S
   pub counts : Counts
   pub samples : List Float
+
+-- what an oscillator's call gave and left in the buffer, in 01's numbers
+abbrev pub gave : {S : Type 0} → Answer → S → Counts → List Float → Call S
+gave answer s counts xs = record { number = numberOf answer; index = indexOf answer; state = s; counts = counts; samples = xs }
 
 -- a refusal gives the state back, counts nothing and touches no sample
 abbrev pub refusal : {S : Type 0} → ℕ → ℕ → S → List Float → Call S
@@ -37,3 +43,7 @@ unfoldable pub run : {S : Type 0} → (S → List Float → Float → Sample S) 
 run make rooms ps s xs =
     let steps = stepsOf (length xs) ps in
     driftOr (firstOutside rooms steps) s xs (play make s noCounts steps xs)
+
+-- and every sample, where no step lies outside its room
+abbrev pub playedOf : {S : Type 0} → (S → List Float → Float → Sample S) → S → List ParameterInterpolator → List Float → Call S
+playedOf make s ps xs = done (play make s noCounts (stepsOf (length xs) ps) xs)

@@ -17,7 +17,7 @@ use Rattle.rooms.specs.declared.Found.{Found}
 use Rattle.rooms.specs.declared.Found.the-variants.{Outside, Nowhere}
 use Rattle.rooms.specs.Steps.{stepsOf, firstOutside}
 use Rattle.ranges.specs.Ranges.{parameterFrequencyIn}
-use Rattle.block.specs.Calls.{run}
+use Rattle.block.specs.Calls.{run, playedOf}
 use Rattle.rooms.proofs.RangeLaws.{phase-under, under-phase}
 use Rattle.ranges.proofs.Bools.{and-both}
 use Rattle.rooms.proofs.Padding.{unused, padded}
@@ -27,7 +27,7 @@ use Rattle.nes_triangle.specs.declared.Rendered.{Rendered}
 use Rattle.nes_triangle.specs.Depth.{bitsIn, testedBits}
 use Rattle.nes_triangle.specs.Sample.{sampleAt}
 use Rattle.nes_triangle.specs.Block.{stepIn, stateIn, parametersIn, rooms, renderOf, left, Phase32}
-use Rattle.nes_triangle.specs.Private.{Below, Valid, BitsIn, Fit, Playable, playedOf, refused}
+use Rattle.nes_triangle.specs.Private.{Below, Valid, BitsIn, Fit, Playable, refused}
 
 -- the walk's answer, over the five places that it takes
 module _ (bits : ℕ) (s : State) (f still : ParameterInterpolator) (xs : List Float) (found : Found)
@@ -42,7 +42,7 @@ module _ (bits : ℕ) (s : State) (f still : ParameterInterpolator) (xs : List F
     pub playable : Fit bits s xs → Playable bits s (f ∷ []) xs
     playable k = record { fit = k; inside = sym searched ∙ h }
 
-    pub played : (r : Rendered) (after : List Float) → left r after ≡ playedOf bits s (f ∷ []) xs → left r after ≡ run (sampleAt bits) rooms (f ∷ []) s xs
+    pub played : (r : Rendered) (after : List Float) → left r after ≡ playedOf (sampleAt bits) s (f ∷ []) xs → left r after ≡ run (sampleAt bits) rooms (f ∷ []) s xs
     played r after e = e ∙ sym (run-done (sampleAt bits) rooms (f ∷ []) s xs (sym searched ∙ h))
 
 -- ---- what passed the tests

@@ -59,8 +59,5 @@ pub record Playable (bits : ℕ) (s : State) (ps : List ParameterInterpolator) (
   pub fit : Fit bits s xs
   pub inside : firstOutside rooms (stepsOf (length xs) ps) ≡ Nowhere
 
-abbrev pub playedOf : ℕ → State → List ParameterInterpolator → List Float → Call State
-playedOf bits s ps xs = done (play (sampleAt bits) s noCounts (stepsOf (length xs) ps) xs)
-
 abbrev pub refused : Answer → State → Rendered
 refused answer s = record { answer = answer; state = s; counts = noCounts }

@@ -2,10 +2,10 @@
 ghost use mathlib.Core.Path.{_≡_};
 ghost use mathlib.Core.Bool.{true};
 ghost use mathlib.Core.List.{[], _∷_};
-ghost use Rattle.block.specs.Calls.{run};
+ghost use Rattle.block.specs.Calls.{run, playedOf};
 ghost use Rattle.nes_triangle.specs.Sample.{sampleAt};
 ghost use Rattle.nes_triangle.specs.Block.{stepIn, stateIn, parametersIn, rooms, renderOf, left};
-ghost use Rattle.nes_triangle.specs.Private.{Fit, Playable, playedOf, refused};
+ghost use Rattle.nes_triangle.specs.Private.{Fit, Playable, refused};
 use block::Answer;
 use block::Counts;
 use parameter_interpolator::ParameterInterpolator;
@@ -110,7 +110,7 @@ fn drift_or_play(
 // Every sample of the buffer.
 fn play(state: State, num_bits: u32, fm: ParameterInterpolator, out: &mut [f32]) -> Rendered
     requires { ⌜ Playable «num_bits» state (fm ∷ []) (now out) ⌝ }
-    ensures { λ r. ⌜ left r (now (out .exit)) ≡ playedOf «num_bits» state (fm ∷ []) (now (out .entry)) ⌝ }
+    ensures { λ r. ⌜ left r (now (out .exit)) ≡ playedOf (sampleAt «num_bits») state (fm ∷ []) (now (out .entry)) ⌝ }
 {
     let d = depth::of_bits(num_bits);
     let mut s = state;

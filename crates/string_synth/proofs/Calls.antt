@@ -19,7 +19,7 @@ use Rattle.block.specs.declared.Answer.the-variants.{LongBlock, BadRegistration
 use Rattle.rooms.specs.declared.Found.{Found}
 use Rattle.rooms.specs.declared.Found.the-variants.{Outside, Nowhere}
 use Rattle.rooms.specs.Steps.{stepsOf, firstOutside}
-use Rattle.block.specs.Calls.{run}
+use Rattle.block.specs.Calls.{run, playedOf}
 use Rattle.ranges.proofs.Bools.{and-both}
 use Rattle.block.proofs.Runs.{run-drift, run-done}
 use Rattle.states.specs.declared.string_synth.State.{State}
@@ -28,7 +28,7 @@ use Rattle.string_synth.specs.declared.sample.Saws.{Saws}
 use Rattle.string_synth.specs.Sample.{sampleAt}
 use Rattle.string_synth.specs.Targets.{targetsOf}
 use Rattle.string_synth.specs.Block.{stateIn, parametersIn, rooms, renderOf, left}
-use Rattle.string_synth.specs.Private.{Valid, Fit, Playable, playedOf, refused}
+use Rattle.string_synth.specs.Private.{Valid, Fit, Playable, refused}
 
 -- the walk's answer
 module _ (s : State) (ps : List ParameterInterpolator) (xs : List Float) (found : Found) (walked : found ≡ firstOutside rooms (stepsOf (length xs) ps)) where
@@ -39,7 +39,7 @@ module _ (s : State) (ps : List ParameterInterpolator) (xs : List Float) (found 
     pub playable : Fit s xs → Playable s ps xs
     playable k = record { fit = k; inside = sym walked ∙ h }
 
-    pub played : (r : Rendered) (after : List Float) → left r after ≡ playedOf s ps xs → left r after ≡ run sampleAt rooms ps s xs
+    pub played : (r : Rendered) (after : List Float) → left r after ≡ playedOf sampleAt s ps xs → left r after ≡ run sampleAt rooms ps s xs
     played r after e = e ∙ sym (run-done sampleAt rooms ps s xs (sym walked ∙ h))
 
 -- a segment that passed its test is one of the eight

@@ -11,14 +11,14 @@ use Rattle.block.specs.declared.Counts.{Counts}
 use Rattle.block.specs.Counting.{noCounts, plus, wrapped}
 use Rattle.rooms.specs.Steps.{moved, values}
 use Rattle.block.specs.Play.{Sample, Heard}
-use Rattle.block.specs.Calls.{done}
+use Rattle.block.specs.Calls.{done, playedOf}
 use Rattle.block.proofs.Plays.{Playing, playing-start, playing-counts, playing-more, playing-end}
 use Rattle.states.specs.declared.string_synth.State.{State}
 use Rattle.string_synth.specs.declared.sample.Saws.{Saws}
 use Rattle.string_synth.specs.declared.sample.Sampled.{Sampled}
 use Rattle.string_synth.specs.Sample.{sampleOf, sampleAt}
 use Rattle.string_synth.specs.Block.{rooms, left}
-use Rattle.string_synth.specs.Private.{Valid, sawsAt, Playable, playedOf}
+use Rattle.string_synth.specs.Private.{Valid, sawsAt, Playable}
 use Rattle.string_synth.proofs.Keeping.{keeps}
 
 abbrev pub Turning : State → List ParameterInterpolator → List Float → State → List ParameterInterpolator → Counts → List Float → ℕ → Type 0
@@ -29,7 +29,7 @@ module _ (s₀ : State) (ps₀ : List ParameterInterpolator) (out₀ : List Floa
   turning-start five c e h = rw e (playing-start sampleAt rooms Valid keeps s₀ ps₀ out₀ (h .fit .short) five (h .fit .valid) (h .inside))
 
   pub turning-end : (s : State) (ps : List ParameterInterpolator) (c : Counts) (out : List Float) (i : ℕ) → Turning s₀ ps₀ out₀ s ps c out i → length out ≤ i
-      → left (record { answer = Done; state = s; counts = c }) out ≡ playedOf s₀ ps₀ out₀
+      → left (record { answer = Done; state = s; counts = c }) out ≡ playedOf sampleAt s₀ ps₀ out₀
   turning-end s ps c out i p l = ap (λ (h : Heard State). done h) (playing-end sampleAt rooms Valid keeps s₀ ps₀ out₀ s ps c out i p l)
 
   module _ (s : State) (f g8 g4 g2 g1 : ParameterInterpolator) (c : Counts) (out : List Float) (i : ℕ) (p : Turning s₀ ps₀ out₀ s (f ∷ g8 ∷ g4 ∷ g2 ∷ g1 ∷ []) c out i) (l : i < length out)

@@ -1,10 +1,9 @@
 -- The contract of `render` determines all: any two outcomes that satisfy it coincide. Assumes nothing.
-use mathlib.Core.Path.{_≡_, ap}
+use mathlib.Core.Path.{_≡_}
 use mathlib.Core.List.{List}
 use lib.Ieee.{Float}
-use Rattle.block.specs.Calls.{Call}
 use Rattle.floats.proofs.Contracts.{coincide}
-use Rattle.block.proofs.Contracts.{same-answer}
+use Rattle.block.proofs.Contracts.{same-outcome}
 use Rattle.states.specs.declared.string_synth.State.{State}
 use Rattle.string_synth.specs.declared.Rendered.{Rendered}
 use Rattle.string_synth.specs.Block.{renderOf, left}
@@ -13,8 +12,5 @@ use Rattle.string_synth.specs.Block.{renderOf, left}
 pub tight : (s : State) (frequency : Float) (registration : List Float) (gain : Float) (xs : List Float) (r q : Rendered) (ys zs : List Float)
     → left r ys ≡ renderOf s frequency registration gain xs → left q zs ≡ renderOf s frequency registration gain xs → (r ≡ q) × (ys ≡ zs)
 tight s frequency registration gain xs r q ys zs h k =
-    let e = coincide h k in
-    let answer = same-answer (r .answer) (q .answer) (ap (λ (c : Call State). c .number) e) (ap (λ (c : Call State). c .index) e) in
-    let state = ap (λ (c : Call State). c .state) e in
-    let counts = ap (λ (c : Call State). c .counts) e in
-    (rw (answer, state, counts), ap (λ (c : Call State). c .samples) e)
+    let o = same-outcome (r .answer) (q .answer) _ _ _ _ _ _ (coincide h k) in
+    (rw (o .0, o .1, o .2), o .3)

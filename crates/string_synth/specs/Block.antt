@@ -12,9 +12,8 @@ use Rattle.parameter_interpolator.specs.declared.ParameterInterpolator.{Paramet
 use Rattle.parameter_interpolator.specs.Interpolator.{newInterpolator}
 use Rattle.rooms.specs.declared.Room.{Room}
 use Rattle.rooms.specs.declared.Room.the-variants.{StringFrequency, Sixteen}
-use Rattle.block.specs.Answers.{numberOf, indexOf}
 use Rattle.ranges.specs.Ranges.{within, parameterFrequencyIn, unitIn, sixteenIn}
-use Rattle.block.specs.Calls.{Call, refusal, run}
+use Rattle.block.specs.Calls.{Call, refusal, run, gave}
 use Rattle.block.specs.Account.{usedBy}
 use Rattle.states.specs.declared.string_synth.State.{State}
 use Rattle.string_synth.specs.declared.Rendered.{Rendered}
@@ -73,7 +72,7 @@ renderOf s frequency registration gain xs =
 
 -- what a call returned and left in the buffer, in 01's numbers
 abbrev pub left : Rendered → List Float → Call State
-left r xs = record { number = numberOf (r .answer); index = indexOf (r .answer); state = r .state; counts = r .counts; samples = xs }
+left r xs = gave (r .answer) (r .state) (r .counts) xs
 
 -- for chains: one call's arguments, the call, and the steps of the frequency that it used
 pub record Arguments : Type 0 where

@@ -46,8 +46,5 @@ pub record Playable (s : State) (ps : List ParameterInterpolator) (xs : List Flo
 abbrev pub sawsAt : ParameterInterpolator → ParameterInterpolator → ParameterInterpolator → ParameterInterpolator → ParameterInterpolator → Saws
 sawsAt f g8 g4 g2 g1 = record { frequency = f .value; «saw_8_gain» = g8 .value; «saw_4_gain» = g4 .value; «saw_2_gain» = g2 .value; «saw_1_gain» = g1 .value }
 
-abbrev pub playedOf : State → List ParameterInterpolator → List Float → Call State
-playedOf s ps xs = done (play sampleAt s noCounts (stepsOf (length xs) ps) xs)
-
 abbrev pub refused : Answer → State → Rendered
 refused answer s = record { answer = answer; state = s; counts = noCounts }

@@ -1,10 +1,10 @@
 // A mixture of saws and squares in the style of divide-down organs: the source's oscillator/string_synth_oscillator.rs.
 ghost use mathlib.Core.Path.{_≡_};
 ghost use mathlib.Core.List.{[], _∷_};
-ghost use Rattle.block.specs.Calls.{run};
+ghost use Rattle.block.specs.Calls.{run, playedOf};
 ghost use Rattle.string_synth.specs.Sample.{sampleAt};
 ghost use Rattle.string_synth.specs.Block.{placeIn, gainsIn, stateIn, registrationIn, parametersIn, rooms, renderOf, left};
-ghost use Rattle.string_synth.specs.Private.{sawsAt, Fit, Playable, playedOf, refused};
+ghost use Rattle.string_synth.specs.Private.{sawsAt, Fit, Playable, refused};
 use crate::sample::Saws;
 use block::Answer;
 use block::Counts;
@@ -153,7 +153,7 @@ fn play(
     out: &mut [f32],
 ) -> Rendered
     requires { ⌜ Playable state (fm ∷ «saw_8» ∷ «saw_4» ∷ «saw_2» ∷ «saw_1» ∷ []) (now out) ⌝ }
-    ensures { λ r. ⌜ left r (now (out .exit)) ≡ playedOf state (fm ∷ «saw_8» ∷ «saw_4» ∷ «saw_2» ∷ «saw_1» ∷ []) (now (out .entry)) ⌝ }
+    ensures { λ r. ⌜ left r (now (out .exit)) ≡ playedOf sampleAt state (fm ∷ «saw_8» ∷ «saw_4» ∷ «saw_2» ∷ «saw_1» ∷ []) (now (out .entry)) ⌝ }
 {
     let mut s = state;
     let mut frequency = fm;

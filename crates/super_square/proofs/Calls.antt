@@ -15,7 +15,7 @@ use Rattle.rooms.specs.declared.Found.{Found}
 use Rattle.rooms.specs.declared.Found.the-variants.{Outside, Nowhere}
 use Rattle.ranges.specs.Targets.{clipped}
 use Rattle.rooms.specs.Steps.{stepsOf, firstOutside}
-use Rattle.block.specs.Calls.{run}
+use Rattle.block.specs.Calls.{run, playedOf}
 use Rattle.ranges.proofs.Bools.{and-both}
 use Rattle.rooms.proofs.RangeLaws.{phase-under, under-phase}
 use Rattle.rooms.proofs.Padding.{unused, padded}
@@ -24,7 +24,7 @@ use Rattle.states.specs.declared.super_square.State.{State}
 use Rattle.super_square.specs.declared.Rendered.{Rendered}
 use Rattle.super_square.specs.Sample.{sampleAt}
 use Rattle.super_square.specs.Block.{stateIn, parametersIn, factorOf, rooms, renderOf, left}
-use Rattle.super_square.specs.Private.{Valid, Fit, Playable, playedOf, refused}
+use Rattle.super_square.specs.Private.{Valid, Fit, Playable, refused}
 
 -- the walk's answer, over the five places that it takes
 module _ (s : State) (m f still : ParameterInterpolator) (xs : List Float) (found : Found)
@@ -39,7 +39,7 @@ module _ (s : State) (m f still : ParameterInterpolator) (xs : List Float) (foun
     pub playable : Fit s xs → Playable s (m ∷ f ∷ []) xs
     playable k = record { fit = k; inside = sym searched ∙ h }
 
-    pub played : (r : Rendered) (after : List Float) → left r after ≡ playedOf s (m ∷ f ∷ []) xs → left r after ≡ run sampleAt rooms (m ∷ f ∷ []) s xs
+    pub played : (r : Rendered) (after : List Float) → left r after ≡ playedOf sampleAt s (m ∷ f ∷ []) xs → left r after ≡ run sampleAt rooms (m ∷ f ∷ []) s xs
     played r after e = e ∙ sym (run-done sampleAt rooms (m ∷ f ∷ []) s xs (sym searched ∙ h))
 
 -- a state that passed its test is valid, and the other way round

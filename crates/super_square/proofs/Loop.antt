@@ -11,13 +11,13 @@ use Rattle.block.specs.declared.Counts.{Counts}
 use Rattle.block.specs.Counting.{noCounts, plus, wrapped}
 use Rattle.rooms.specs.Steps.{moved, values}
 use Rattle.block.specs.Play.{Sample, Heard}
-use Rattle.block.specs.Calls.{done}
+use Rattle.block.specs.Calls.{done, playedOf}
 use Rattle.block.proofs.Plays.{Playing, playing-start, playing-inside, playing-counts, playing-more, playing-end}
 use Rattle.states.specs.declared.super_square.State.{State}
 use Rattle.super_square.specs.declared.sample.Sampled.{Sampled}
 use Rattle.super_square.specs.Sample.{sampleOf, sampleAt}
 use Rattle.super_square.specs.Block.{rooms, left}
-use Rattle.super_square.specs.Private.{Valid, Ready, Playable, playedOf}
+use Rattle.super_square.specs.Private.{Valid, Ready, Playable}
 use Rattle.super_square.proofs.Keeping.{keeps, ready-of}
 
 abbrev pub Turning : State → ParameterInterpolator → ParameterInterpolator → List Float → State → ParameterInterpolator → ParameterInterpolator → Counts → List Float → ℕ → Type 0
@@ -28,7 +28,7 @@ module _ (s₀ : State) (m₀ f₀ : ParameterInterpolator) (out₀ : List Float
   turning-start c e h = rw e (playing-start sampleAt rooms Valid keeps s₀ (m₀ ∷ f₀ ∷ []) out₀ (h .fit .short) refl (h .fit .valid) (h .inside))
 
   module _ (s : State) (m f : ParameterInterpolator) (c : Counts) (out : List Float) (i : ℕ) (p : Turning s₀ m₀ f₀ out₀ s m f c out i) where
-    pub turning-end : length out ≤ i → left (record { answer = Done; state = s; counts = c }) out ≡ playedOf s₀ (m₀ ∷ f₀ ∷ []) out₀
+    pub turning-end : length out ≤ i → left (record { answer = Done; state = s; counts = c }) out ≡ playedOf sampleAt s₀ (m₀ ∷ f₀ ∷ []) out₀
     turning-end l = ap (λ (h : Heard State). done h) (playing-end sampleAt rooms Valid keeps s₀ (m₀ ∷ f₀ ∷ []) out₀ s (m ∷ f ∷ []) c out i p l)
 
     module _ (l : i < length out) (m' f' : ParameterInterpolator) (at-m : m' ≡ nextInterpolator m) (at-f : f' ≡ nextInterpolator f) where

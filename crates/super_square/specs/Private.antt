@@ -43,8 +43,5 @@ pub record Playable (s : State) (ps : List ParameterInterpolator) (xs : List Flo
   pub fit : Fit s xs
   pub inside : firstOutside rooms (stepsOf (length xs) ps) ≡ Nowhere
 
-abbrev pub playedOf : State → List ParameterInterpolator → List Float → Call State
-playedOf s ps xs = done (play sampleAt s noCounts (stepsOf (length xs) ps) xs)
-
 abbrev pub refused : Answer → State → Rendered
 refused answer s = record { answer = answer; state = s; counts = noCounts }

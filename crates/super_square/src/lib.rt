@@ -1,10 +1,10 @@
 // Two hard-synced square waves with one shape parameter: the source's oscillator/super_square_oscillator.rs.
 ghost use mathlib.Core.Path.{_≡_};
 ghost use mathlib.Core.List.{[], _∷_};
-ghost use Rattle.block.specs.Calls.{run};
+ghost use Rattle.block.specs.Calls.{run, playedOf};
 ghost use Rattle.super_square.specs.Sample.{sampleAt};
 ghost use Rattle.super_square.specs.Block.{stateIn, parametersIn, factorOf, rooms, renderOf, left};
-ghost use Rattle.super_square.specs.Private.{Fit, Playable, playedOf, refused};
+ghost use Rattle.super_square.specs.Private.{Fit, Playable, refused};
 use block::Answer;
 use block::Counts;
 use parameter_interpolator::ParameterInterpolator;
@@ -119,7 +119,7 @@ fn play(
     out: &mut [f32],
 ) -> Rendered
     requires { ⌜ Playable state («master_fm» ∷ fm ∷ []) (now out) ⌝ }
-    ensures { λ r. ⌜ left r (now (out .exit)) ≡ playedOf state («master_fm» ∷ fm ∷ []) (now (out .entry)) ⌝ }
+    ensures { λ r. ⌜ left r (now (out .exit)) ≡ playedOf sampleAt state («master_fm» ∷ fm ∷ []) (now (out .entry)) ⌝ }
 {
     let mut s = state;
     let mut master = master_fm;

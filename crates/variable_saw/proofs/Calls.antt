@@ -17,7 +17,7 @@ use Rattle.rooms.specs.declared.Found.{Found}
 use Rattle.rooms.specs.declared.Found.the-variants.{Outside, Nowhere}
 use Rattle.ranges.specs.Targets.{clipped, clampedWidth}
 use Rattle.rooms.specs.Steps.{stepsOf, firstOutside}
-use Rattle.block.specs.Calls.{run}
+use Rattle.block.specs.Calls.{run, playedOf}
 use Rattle.ranges.proofs.Bools.{and-both}
 use Rattle.rooms.proofs.RangeLaws.{phase-under, under-phase}
 use Rattle.rooms.proofs.Padding.{unused, padded}
@@ -26,7 +26,7 @@ use Rattle.states.specs.declared.variable_saw.State.{State}
 use Rattle.variable_saw.specs.declared.Rendered.{Rendered}
 use Rattle.variable_saw.specs.Sample.{sampleAt}
 use Rattle.variable_saw.specs.Block.{sawPhaseIn, stateIn, parametersIn, rooms, renderOf, left}
-use Rattle.variable_saw.specs.Private.{reach, Valid, Fit, Playable, playedOf, refused}
+use Rattle.variable_saw.specs.Private.{reach, Valid, Fit, Playable, refused}
 
 -- the walk's answer, over the five places that it takes
 module _ (s : State) (f p w still : ParameterInterpolator) (xs : List Float) (found : Found)
@@ -41,7 +41,7 @@ module _ (s : State) (f p w still : ParameterInterpolator) (xs : List Float) (fo
     pub playable : Fit s xs → Playable s (f ∷ p ∷ w ∷ []) xs
     playable k = record { fit = k; inside = sym searched ∙ h }
 
-    pub played : (r : Rendered) (after : List Float) → left r after ≡ playedOf s (f ∷ p ∷ w ∷ []) xs → left r after ≡ run sampleAt rooms (f ∷ p ∷ w ∷ []) s xs
+    pub played : (r : Rendered) (after : List Float) → left r after ≡ playedOf sampleAt s (f ∷ p ∷ w ∷ []) xs → left r after ≡ run sampleAt rooms (f ∷ p ∷ w ∷ []) s xs
     played r after e = e ∙ sym (run-done sampleAt rooms (f ∷ p ∷ w ∷ []) s xs (sym searched ∙ h))
 
 -- a phase that passed its test lies within its reach, and the other way round

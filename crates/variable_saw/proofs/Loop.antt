@@ -11,13 +11,13 @@ use Rattle.block.specs.declared.Counts.{Counts}
 use Rattle.block.specs.Counting.{noCounts, plus, wrapped}
 use Rattle.rooms.specs.Steps.{moved, values}
 use Rattle.block.specs.Play.{Sample, Heard}
-use Rattle.block.specs.Calls.{done}
+use Rattle.block.specs.Calls.{done, playedOf}
 use Rattle.block.proofs.Plays.{Playing, playing-start, playing-counts, playing-more, playing-end}
 use Rattle.states.specs.declared.variable_saw.State.{State}
 use Rattle.variable_saw.specs.declared.sample.Sampled.{Sampled}
 use Rattle.variable_saw.specs.Sample.{sampleOf, sampleAt}
 use Rattle.variable_saw.specs.Block.{rooms, left}
-use Rattle.variable_saw.specs.Private.{Valid, Playable, playedOf}
+use Rattle.variable_saw.specs.Private.{Valid, Playable}
 use Rattle.variable_saw.proofs.Keeping.{keeps}
 
 abbrev pub Turning : State → ParameterInterpolator → ParameterInterpolator → ParameterInterpolator → List Float
@@ -29,7 +29,7 @@ module _ (s₀ : State) (f₀ p₀ w₀ : ParameterInterpolator) (out₀ : List 
   turning-start c e h = rw e (playing-start sampleAt rooms Valid keeps s₀ (f₀ ∷ p₀ ∷ w₀ ∷ []) out₀ (h .fit .short) refl (h .fit .valid) (h .inside))
 
   module _ (s : State) (f p w : ParameterInterpolator) (c : Counts) (out : List Float) (i : ℕ) (q : Turning s₀ f₀ p₀ w₀ out₀ s f p w c out i) where
-    pub turning-end : length out ≤ i → left (record { answer = Done; state = s; counts = c }) out ≡ playedOf s₀ (f₀ ∷ p₀ ∷ w₀ ∷ []) out₀
+    pub turning-end : length out ≤ i → left (record { answer = Done; state = s; counts = c }) out ≡ playedOf sampleAt s₀ (f₀ ∷ p₀ ∷ w₀ ∷ []) out₀
     turning-end l = ap (λ (h : Heard State). done h) (playing-end sampleAt rooms Valid keeps s₀ (f₀ ∷ p₀ ∷ w₀ ∷ []) out₀ s (f ∷ p ∷ w ∷ []) c out i q l)
 
     pub turning-more : i < length out → (f' p' w' : ParameterInterpolator) (t : Sampled) (k : Counts)

@@ -1,10 +1,10 @@
 // A saw with variable slope or notch: the source's oscillator/variable_saw_oscillator.rs.
 ghost use mathlib.Core.Path.{_≡_};
 ghost use mathlib.Core.List.{[], _∷_};
-ghost use Rattle.block.specs.Calls.{run};
+ghost use Rattle.block.specs.Calls.{run, playedOf};
 ghost use Rattle.variable_saw.specs.Sample.{sampleAt};
 ghost use Rattle.variable_saw.specs.Block.{sawPhaseIn, stateIn, parametersIn, rooms, renderOf, left};
-ghost use Rattle.variable_saw.specs.Private.{Fit, Playable, playedOf, refused};
+ghost use Rattle.variable_saw.specs.Private.{Fit, Playable, refused};
 use block::Answer;
 use block::Counts;
 use parameter_interpolator::ParameterInterpolator;
@@ -123,7 +123,7 @@ fn play(
     out: &mut [f32],
 ) -> Rendered
     requires { ⌜ Playable state (fm ∷ pwm ∷ «waveshape_modulation» ∷ []) (now out) ⌝ }
-    ensures { λ r. ⌜ left r (now (out .exit)) ≡ playedOf state (fm ∷ pwm ∷ «waveshape_modulation» ∷ []) (now (out .entry)) ⌝ }
+    ensures { λ r. ⌜ left r (now (out .exit)) ≡ playedOf sampleAt state (fm ∷ pwm ∷ «waveshape_modulation» ∷ []) (now (out .entry)) ⌝ }
 {
     let mut s = state;
     let mut frequency = fm;

@@ -13,7 +13,7 @@ use Rattle.rooms.specs.declared.Room.the-variants.{Frequency, PulseWidth, Waves
 use Rattle.rooms.specs.declared.Found.{Found}
 use Rattle.rooms.specs.declared.Found.the-variants.{Outside, Nowhere}
 use Rattle.rooms.specs.Steps.{stepsOf, firstOutside}
-use Rattle.block.specs.Calls.{run}
+use Rattle.block.specs.Calls.{run, playedOf}
 use Rattle.rooms.proofs.Padding.{padded}
 use Rattle.block.proofs.Runs.{run-drift, run-done}
 use Rattle.states.specs.declared.variable_shape.State.{State}
@@ -21,7 +21,7 @@ use Rattle.variable_shape.specs.declared.Rendered.{Rendered}
 use Rattle.variable_shape.specs.declared.steps.Interpolators.{Interpolators}
 use Rattle.variable_shape.specs.Sample.{sampleAt}
 use Rattle.variable_shape.specs.Block.{stateIn, parametersIn, interpolatorsOf, stepping, rooms, renderOf, left}
-use Rattle.variable_shape.specs.Private.{Fit, Playable, playedOf, refused, modulationRoom}
+use Rattle.variable_shape.specs.Private.{Fit, Playable, refused, modulationRoom}
 
 -- the five places of the walk
 abbrev five : Interpolators → List ParameterInterpolator
@@ -47,7 +47,7 @@ module _ (phaseOutput : Bool) (s : State) (p : Interpolators) (xs : List Float) 
     pub playable : Fit s p xs → Playable phaseOutput s p xs
     playable k = record { fit = k; inside = sym searched ∙ h }
 
-    pub played : (sync : Bool) (r : Rendered) (after : List Float) → left r after ≡ playedOf sync phaseOutput s p xs → left r after ≡ run (sampleAt sync phaseOutput) (rooms phaseOutput) (stepping phaseOutput p) s xs
+    pub played : (sync : Bool) (r : Rendered) (after : List Float) → left r after ≡ playedOf (sampleAt sync phaseOutput) s (stepping phaseOutput p) xs → left r after ≡ run (sampleAt sync phaseOutput) (rooms phaseOutput) (stepping phaseOutput p) s xs
     played sync r after e = e ∙ sym (run-done (sampleAt sync phaseOutput) (rooms phaseOutput) (stepping phaseOutput p) s xs (sym searched ∙ h))
 
 -- phase modulation's interpolator starts from the state

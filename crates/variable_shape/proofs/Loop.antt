@@ -13,7 +13,7 @@ use Rattle.block.specs.declared.Counts.{Counts}
 use Rattle.block.specs.Counting.{noCounts, plus, wrapped}
 use Rattle.rooms.specs.Steps.{moved, values}
 use Rattle.block.specs.Play.{Sample, Heard}
-use Rattle.block.specs.Calls.{done}
+use Rattle.block.specs.Calls.{done, playedOf}
 use Rattle.ranges.proofs.Bools.{cond-both}
 use Rattle.block.proofs.Plays.{Playing, playing-start, playing-inside, playing-counts, playing-more, playing-end}
 use Rattle.states.specs.declared.variable_shape.State.{State}
@@ -22,7 +22,7 @@ use Rattle.variable_shape.specs.declared.steps.Steps.{Steps}
 use Rattle.variable_shape.specs.declared.sample.Sampled.{Sampled}
 use Rattle.variable_shape.specs.Sample.{finish, resetSample, plainSample, masterStep, sampleOf, stepsAt, sampleAt}
 use Rattle.variable_shape.specs.Block.{stepping, rooms, left}
-use Rattle.variable_shape.specs.Private.{Valid, Ready, Playable, playedOf, advanced, valuesOf}
+use Rattle.variable_shape.specs.Private.{Valid, Ready, Playable, advanced, valuesOf}
 use Rattle.variable_shape.proofs.Keeping.{keeps, ready-of}
 
 -- each interpolator that steps has its room
@@ -61,7 +61,7 @@ module _ (sync phaseOutput : Bool) (s₀ : State) (p₀ : Interpolators) (out₀
   }
 
   module _ (s : State) (p : Interpolators) (c : Counts) (out : List Float) (i : ℕ) (t : Turning s p c out i) where
-    pub turning-end : length out ≤ i → left (record { answer = Done; state = s; counts = c }) out ≡ playedOf sync phaseOutput s₀ p₀ out₀
+    pub turning-end : length out ≤ i → left (record { answer = Done; state = s; counts = c }) out ≡ playedOf (sampleAt sync phaseOutput) s₀ (stepping phaseOutput p₀) out₀
     turning-end l =
         ap (λ (h : Heard State). done h)
         (playing-end (sampleAt sync phaseOutput) (rooms phaseOutput) Valid (keeps sync phaseOutput) s₀ (stepping phaseOutput p₀) out₀ s (stepping phaseOutput p) c out i (t .playing) l)

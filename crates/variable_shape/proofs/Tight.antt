@@ -3,9 +3,8 @@ use mathlib.Core.Path.{_≡_, ap}
 use mathlib.Core.Bool.{Bool}
 use mathlib.Core.List.{List}
 use lib.Ieee.{Float}
-use Rattle.block.specs.Calls.{Call}
 use Rattle.floats.proofs.Contracts.{coincide}
-use Rattle.block.proofs.Contracts.{same-answer}
+use Rattle.block.proofs.Contracts.{same-answer, same-outcome}
 use Rattle.states.specs.declared.variable_shape.State.{State}
 use Rattle.variable_shape.specs.declared.Rendered.{Rendered}
 use Rattle.variable_shape.specs.declared.PhaseSet.{PhaseSet}
@@ -17,11 +16,8 @@ pub tight : (s : State) (masterFrequency frequency pw waveshape phaseModulation 
     → left r ys ≡ renderOf s masterFrequency frequency pw waveshape phaseModulation sync phaseOutput xs
     → left q zs ≡ renderOf s masterFrequency frequency pw waveshape phaseModulation sync phaseOutput xs → (r ≡ q) × (ys ≡ zs)
 tight s masterFrequency frequency pw waveshape phaseModulation sync phaseOutput xs r q ys zs h k =
-    let e = coincide h k in
-    let answer = same-answer (r .answer) (q .answer) (ap (λ (c : Call State). c .number) e) (ap (λ (c : Call State). c .index) e) in
-    let state = ap (λ (c : Call State). c .state) e in
-    let counts = ap (λ (c : Call State). c .counts) e in
-    (rw (answer, state, counts), ap (λ (c : Call State). c .samples) e)
+    let o = same-outcome (r .answer) (q .answer) _ _ _ _ _ _ (coincide h k) in
+    (rw (o .0, o .1, o .2), o .3)
 
 -- by value or lent, the answer and the state are the same
 pub tight-set : (s : State) (phase : Float) (r q : PhaseSet) → leftSet r ≡ masterPhaseSet s phase → leftSet q ≡ masterPhaseSet s phase → r ≡ q

@@ -11,9 +11,8 @@ use Rattle.parameter_interpolator.specs.Interpolator.{newInterpolator}
 use Rattle.rooms.specs.declared.Room.{Room}
 use Rattle.rooms.specs.declared.Room.the-variants.{Frequency, PulseWidth, Waveshape, Sixteen}
 use Rattle.ranges.specs.Targets.{clipped, clampedWidth}
-use Rattle.block.specs.Answers.{numberOf, indexOf}
 use Rattle.ranges.specs.Ranges.{within, phaseIn, frequencyIn, parameterFrequencyIn, unitIn, waveshapeIn, sixteenIn}
-use Rattle.block.specs.Calls.{Call, refusal, run}
+use Rattle.block.specs.Calls.{Call, refusal, run, gave}
 use Rattle.block.specs.Account.{usedBy}
 use Rattle.states.specs.declared.variable_shape.State.{State}
 use Rattle.variable_shape.specs.declared.Rendered.{Rendered}
@@ -60,7 +59,7 @@ renderOf s masterFrequency frequency pw waveshape phaseModulation sync phaseOutp
 
 -- what a call returned and left in the buffer, in 01's numbers
 abbrev pub left : Rendered → List Float → Call State
-left r xs = record { number = numberOf (r .answer); index = indexOf (r .answer); state = r .state; counts = r .counts; samples = xs }
+left r xs = gave (r .answer) (r .state) (r .counts) xs
 
 -- Demand 3: "its phase is the one whose wraps are cycles", the master's with sync and the slave's without; the parameter that moves it is the first or the second
 abbrev pub countedPhase : Bool → State → Float

@@ -58,9 +58,6 @@ pub record Playable (phaseOutput : Bool) (s : State) (p : Interpolators) (xs : L
   pub fit : Fit s p xs
   pub inside : firstOutside (rooms phaseOutput) (stepsOf (length xs) (stepping phaseOutput p)) ≡ Nowhere
 
-abbrev pub playedOf : Bool → Bool → State → Interpolators → List Float → Call State
-playedOf sync phaseOutput s p xs = done (play (sampleAt sync phaseOutput) s noCounts (stepsOf (length xs) (stepping phaseOutput p)) xs)
-
 abbrev pub refused : Answer → State → Rendered
 refused answer s = record { answer = answer; state = s; counts = noCounts }
 

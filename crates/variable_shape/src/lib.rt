@@ -1,10 +1,10 @@
 // A waveform from triangle over saw to square, whose phase can be reset by a master: the source's oscillator/variable_shape_oscillator.rs.
 ghost use mathlib.Core.Path.{_≡_};
-ghost use Rattle.block.specs.Calls.{run};
+ghost use Rattle.block.specs.Calls.{run, playedOf};
 ghost use Rattle.variable_shape.specs.Sample.{sampleAt};
 ghost use Rattle.variable_shape.specs.Block.{stateIn, parametersIn, stepping, rooms, renderOf, left};
 ghost use Rattle.variable_shape.specs.MasterPhase.{masterPhaseSet, leftSet};
-ghost use Rattle.variable_shape.specs.Private.{Fit, Playable, playedOf, refused, modulationRoom};
+ghost use Rattle.variable_shape.specs.Private.{Fit, Playable, refused, modulationRoom};
 use block::Answer;
 use block::Counts;
 use parameter_interpolator::ParameterInterpolator;
@@ -188,7 +188,7 @@ fn play(
     out: &mut [f32],
 ) -> Rendered
     requires { ⌜ Playable «phase_output» state interpolators (now out) ⌝ }
-    ensures { λ r. ⌜ left r (now (out .exit)) ≡ playedOf sync «phase_output» state interpolators (now (out .entry)) ⌝ }
+    ensures { λ r. ⌜ left r (now (out .exit)) ≡ playedOf (sampleAt sync «phase_output») state (stepping «phase_output» interpolators) (now (out .entry)) ⌝ }
 {
     let mut s = state;
     let mut p = interpolators;
