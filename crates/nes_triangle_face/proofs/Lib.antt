@@ -1,2 +1,3 @@
--- Two outcomes of a call coincide.
+-- Words that are refused, and: two outcomes of a call coincide.
+pub mod BadWords
 pub mod Tight

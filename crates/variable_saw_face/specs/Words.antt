@@ -12,7 +12,7 @@ use Rattle.states.specs.VariableSaw.{initState}
 use Rattle.variable_saw.specs.Block.{renderOf}
 use Rattle.words.specs.Face.{Face, faceOf, bitsOf}
 
--- a word for `high` that is neither 0 nor 1 puts the phase outside its range, so that the state is refused as 3
+-- a word for `high` that is neither 0 nor 1 puts the phase outside its range, so that the state is refused as 3: `bad-bool` in proofs/BadWords.antt
 unfoldable pub stateOf : List ℕ → State
 stateOf w = record {
   phase = cond (ltb 1 (getD w 3 0)) (neg one32) (f32 (getD w 0 0));

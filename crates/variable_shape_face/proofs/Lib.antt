@@ -1,3 +1,4 @@
--- Setting the phase in words, and: two outcomes of a call coincide.
+-- Words that are refused, and: two outcomes of a call coincide.
 mod MasterPhase
+pub mod BadWords
 pub mod Tight

@@ -13,7 +13,7 @@ use Rattle.variable_shape.specs.Block.{renderOf}
 use Rattle.variable_shape.specs.MasterPhase.{Setting, masterPhaseSet}
 use Rattle.words.specs.Face.{Face, faceOf, bitsOf}
 
--- a word for `high` that is neither 0 nor 1 puts the master's phase outside its range, so that the state is refused as 3
+-- a word for `high` that is neither 0 nor 1 puts the master's phase outside its range, so that the state is refused as 3: `bad-bool` in proofs/BadWords.antt
 unfoldable pub stateOf : List ℕ → State
 stateOf w = record {
   «master_phase» = cond (ltb 1 (getD w 4 0)) (neg one32) (f32 (getD w 0 0));

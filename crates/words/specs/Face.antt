@@ -27,11 +27,15 @@ resultWords answer counts = numberOf answer ∷ indexOf answer ∷ counts .cycle
 unfoldable pub faceOf : {S : Type 0} → (S → List ℕ) → List ℕ → Call S → Face
 faceOf wordsOf given c = record { words = cond (eqb (c .number) 0) (wordsOf (c .state)) given; result = resultOf c; samples = c .samples }
 
+-- a refusal with this number: the words and the samples as they were, and nothing counted
+abbrev pub refusedFace : ℕ → List ℕ → List Float → Face
+refusedFace number given xs = record { words = given; result = number ∷ 0 ∷ 0 ∷ 0 ∷ 0 ∷ 0 ∷ []; samples = xs }
+
 -- a float as its bit pattern, a NaN as 7fc00000
 abbrev pub bitsOf : Float → ℕ
 bitsOf x = toBits binary32 x
 
--- the whole number of a word in two's complement; every word from 2^31 up stands for a negative number, which no range has, and so for -1
+-- the whole number of a word in two's complement; every word from 2^31 up stands for a negative number, which no range has, and so for -1: `negative-step` and `negative-segment` in the proofs/BadWords.antt of the two faces
 abbrev pub signedOf : ℕ → ℤ
 signedOf w = cond (ltb w 0x8000_0000) (pos w) (negsuc 0)
 
