@@ -1,4 +1,9 @@
-/* Sweeps the string oscillator upward through the pitch that is too high, and prints what it was told. Any frequency is answered, by number. */
+/* Sweeps the string oscillator upward through the pitch that is too high, and prints what it was told. Any frequency is answered, by number.
+
+   rt staticlib navuloqu
+   cc -O2 -o target/sweep examples/sweep.c target/staticlib/libnavuloqu.a && target/sweep
+
+   On Arm with Debian's gcc-x86-64-linux-gnu and qemu-user, x86_64-linux-gnu-gcc in place of cc, and then qemu-x86_64 -L /usr/x86_64-linux-gnu target/sweep */
 #include <stdio.h>
 #include <string.h>
 
