@@ -2,6 +2,5 @@
 pub mod Waveform
 pub mod Sample
 pub mod Block
-pub mod MasterPhase
 pub mod Figures
 pub mod Private

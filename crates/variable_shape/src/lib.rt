@@ -3,7 +3,6 @@ ghost use mathlib.Core.Path.{_≡_};
 ghost use Rattle.block.specs.Calls.{run, playedOf};
 ghost use Rattle.variable_shape.specs.Sample.{sampleAt};
 ghost use Rattle.variable_shape.specs.Block.{stateIn, parametersIn, stepping, rooms, renderOf, left};
-ghost use Rattle.variable_shape.specs.MasterPhase.{masterPhaseSet, leftSet};
 ghost use Rattle.variable_shape.specs.Private.{Fit, Playable, refused, modulationRoom};
 use block::Answer;
 use block::Counts;
@@ -17,7 +16,10 @@ mod sample;
 mod steps;
 mod waveform;
 
-// The state, its default and its initial value, passed on from `states`.
+// The setting of the master's phase, passed on from `master_phase`, and the state, its default and its initial value, from `states`.
+pub use master_phase::PhaseSet;
+pub use master_phase::set_master_phase;
+pub use master_phase::set_master_phase_in;
 pub use states::variable_shape::State;
 pub use states::variable_shape::init;
 pub use states::variable_shape::new;
@@ -27,39 +29,6 @@ pub struct Rendered {
     pub answer: Answer,
     pub state: State,
     pub counts: Counts,
-}
-
-// What setting the master's phase gives.
-pub struct PhaseSet {
-    pub answer: Answer,
-    pub state: State,
-}
-
-pub fn set_master_phase(state: State, phase: f32) -> PhaseSet
-    ensures { λ r. ⌜ leftSet r ≡ masterPhaseSet state phase ⌝ }
-{
-    if ranges::phase_in(phase) {
-        let mut set = state;
-        set.master_phase = phase;
-        PhaseSet {
-            answer: Answer::Done,
-            state: set,
-        }
-    } else {
-        PhaseSet {
-            answer: Answer::BadParam,
-            state,
-        }
-    }
-}
-
-// The same on a state that is lent, as the source has it.
-pub fn set_master_phase_in(state: &mut State, phase: f32) -> Answer
-    ensures { λ r. ⌜ leftSet (record { answer = r; state = now (state .exit) }) ≡ masterPhaseSet (now (state .entry)) phase ⌝ }
-{
-    let r = set_master_phase(*state, phase);
-    *state = r.state;
-    r.answer
 }
 
 // Renders a block into `out`, from the parameters that the last block ended with to these.

@@ -10,7 +10,7 @@ use Rattle.block.specs.Counting.{oneIf}
 use Rattle.states.specs.declared.variable_shape.State.{State}
 use Rattle.states.specs.VariableShape.{initState}
 use Rattle.variable_shape.specs.Block.{renderOf}
-use Rattle.variable_shape.specs.MasterPhase.{Setting, masterPhaseSet}
+use Rattle.master_phase.specs.MasterPhase.{Setting, masterPhaseSet}
 use Rattle.words.specs.Face.{Face, faceOf, bitsOf}
 
 -- a word for `high` that is neither 0 nor 1 puts the master's phase outside its range, so that the state is refused as 3: `bad-bool` in proofs/BadWords.antt

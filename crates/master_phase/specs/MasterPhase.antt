@@ -5,7 +5,7 @@ use lib.Ieee.{Float}
 use Rattle.block.specs.Answers.{numberOf, indexOf}
 use Rattle.ranges.specs.Ranges.{phaseIn}
 use Rattle.states.specs.declared.variable_shape.State.{State}
-use Rattle.variable_shape.specs.declared.PhaseSet.{PhaseSet}
+use Rattle.master_phase.specs.declared.PhaseSet.{PhaseSet}
 
 -- the answer's number and index, and the state
 pub record Setting : Type 0 where

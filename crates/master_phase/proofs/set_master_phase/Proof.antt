@@ -1,8 +1,8 @@
--- `variable_shape::set_master_phase` meets its contract: each way of the test is the definition's. Assumes nothing.
+-- `master_phase::set_master_phase` meets its contract: each way of the test is the definition's. Assumes nothing.
 use mathlib.Core.Path.{refl, sym, _∙_}
 use borrow.Author.Needs.{needs}
-use Rattle.variable_shape.proofs.set_master_phase.Statement.{statement}
-use Rattle.variable_shape.proofs.set_master_phase.Tie as tie
+use Rattle.master_phase.proofs.set_master_phase.Statement.{statement}
+use Rattle.master_phase.proofs.set_master_phase.Tie as tie
 
 phase-in-requires : tie.Need-phase-in-requires
 phase-in-requires c κs = search needs

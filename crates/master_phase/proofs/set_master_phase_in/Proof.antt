@@ -1,4 +1,4 @@
--- `variable_shape::set_master_phase_in` meets its contract: a walk of its MIR, by hand. The borrow is opened, the state is copied out and passed to
+-- `master_phase::set_master_phase_in` meets its contract: a walk of its MIR, by hand. The borrow is opened, the state is copied out and passed to
 -- `set_master_phase`, of which only its contract is known; the state in its result is stored back, and the borrow is closed there. Assumes nothing.
 use mathlib.Core.Path.{_≡_, refl, ap}
 use Prim.Native.Nat.{ℕ}
@@ -42,23 +42,23 @@ use denote.Triple.Table.{entered, cited}
 use denote.Triple.Walked.{says, Stays, stay-ref, stay-none, walkOf, goes-none, goes-ref, Walks, ends-at, walked, walk-meets}
 use denote.Exit.{yes}
 use Rattle.states.specs.declared.variable_shape.State.{State}
-use Rattle.variable_shape.specs.declared.PhaseSet.{PhaseSet}
-use Rattle.variable_shape.specs.MasterPhase.{masterPhaseSet, leftSet}
+use Rattle.master_phase.specs.declared.PhaseSet.{PhaseSet}
+use Rattle.master_phase.specs.MasterPhase.{masterPhaseSet, leftSet}
 use Rattle.block.specs.declared.Answer.{Answer}
 use Rattle.block.proofs.Answer as E
 use Rattle.block.proofs.Answer.Laws as E′
 use Rattle.states.proofs.variable_shape.State as T
 use Rattle.states.proofs.variable_shape.State.Laws as T′
-use Rattle.variable_shape.proofs.PhaseSet as S
-use Rattle.variable_shape.proofs.PhaseSet.Laws as S′
-use Rattle.variable_shape.proofs.set_master_phase as g
-use Rattle.variable_shape.proofs.set_master_phase.Symbol as g-def
-use Rattle.variable_shape.proofs.set_master_phase.Symbol.{name as #variable-shape·set-master-phase}
-use Rattle.variable_shape.proofs.set_master_phase.Met as g-thm
-use Rattle.variable_shape.proofs.set_master_phase_in.Key.{name as #variable-shape·set-master-phase-in}
-use Rattle.variable_shape.proofs.set_master_phase_in as f
-use Rattle.variable_shape.proofs.set_master_phase_in.Statement as stated
-use Rattle.variable_shape.proofs.set_master_phase_in.Code as code
+use Rattle.master_phase.proofs.PhaseSet as S
+use Rattle.master_phase.proofs.PhaseSet.Laws as S′
+use Rattle.master_phase.proofs.set_master_phase as g
+use Rattle.master_phase.proofs.set_master_phase.Symbol as g-def
+use Rattle.master_phase.proofs.set_master_phase.Symbol.{name as #master-phase·set-master-phase}
+use Rattle.master_phase.proofs.set_master_phase.Met as g-thm
+use Rattle.master_phase.proofs.set_master_phase_in.Key.{name as #master-phase·set-master-phase-in}
+use Rattle.master_phase.proofs.set_master_phase_in as f
+use Rattle.master_phase.proofs.set_master_phase_in.Statement as stated
+use Rattle.master_phase.proofs.set_master_phase_in.Code as code
 
 abbrev Arg : Type 0
 Arg = RefT State × (Float × Unit {0})
@@ -109,7 +109,7 @@ module _ {M : Type 1} (𝓤 : URA M) (H : Heap 𝓤) (A : Atoms 𝓤) (W : Given
   made : (r : PhaseSet) (v : Val) → Is S.the-row r (v ∷ []) → Is T.the-row (r .state) (mach (r .state) ∷ [])
   made r v is = LL.owed S.the-type S′.the-laws r (v ∷ []) is .1 .0
 
-  module _ (C : Calls 𝓤 H) (Λ : Loops 𝓤 H) (fm : FmC 𝓤 H (W .laws) C) (known : Triple 𝓤 (C #variable-shape·set-master-phase) (SetPhase 𝓤 H A at-mem run)) where
+  module _ (C : Calls 𝓤 H) (Λ : Loops 𝓤 H) (fm : FmC 𝓤 H (W .laws) C) (known : Triple 𝓤 (C #master-phase·set-master-phase) (SetPhase 𝓤 H A at-mem run)) where
     walk : ent 𝓤 (onEntry 𝓤 H A f.signature (κ, tt) (q, tt) x at) (WpFn 𝓤 H C Λ code.function (vptr b o ∷ vfloat binary32 n ∷ []) Post)
     walk =
         qed W ((‵ (flft κ q) ⊛ ‵ ftrue) ∷ ‵ (owns (MutRef (named 0) κ T.the-row ∷ f32 ∷ []) x at) ∷ []) ∵ split ! $ move ! (2 ∷ []) $ fsplit ! $ move ! (1 ∷ []) $ fsplit ! $
@@ -138,11 +138,11 @@ module _ {M : Type 1} (𝓤 : URA M) (H : Heap 𝓤) (A : Atoms 𝓤) (W : Given
         keep ! (0 ∷ 1 ∷ 2 ∷ []) $ by ! (exits (gn .1) r (answered r v is) e)))))))))))))
 
 module _ {M : Type 1} (𝓤 : URA M) (H : Heap 𝓤) (A : Atoms 𝓤) (W : Given 𝓤 H A) (at-mem : Memory → SProp 𝓤) (run : Routine → Fun 𝓤) where
-  f-walks : (C : Calls 𝓤 H) (Λ : Loops 𝓤 H) → FmC 𝓤 H (W .laws) C → Triple 𝓤 (C #variable-shape·set-master-phase) (SetPhase 𝓤 H A at-mem run) → Walks 𝓤 H A f.ended stayed (WpFn 𝓤 H C Λ code.function) (f.clauses 𝓤 H A at-mem run)
+  f-walks : (C : Calls 𝓤 H) (Λ : Loops 𝓤 H) → FmC 𝓤 H (W .laws) C → Triple 𝓤 (C #master-phase·set-master-phase) (SetPhase 𝓤 H A at-mem run) → Walks 𝓤 H A f.ended stayed (WpFn 𝓤 H C Λ code.function) (f.clauses 𝓤 H A at-mem run)
   f-walks C Λ fm known = walked 𝓤 H A f.ended stayed (f.clauses 𝓤 H A at-mem run) (WpFn 𝓤 H C Λ code.function) (λ κs. (ptr-vals, (float-vals binary32, tt))) (λ κs. (mut-tells (named 0) (κs .0) T.the-row, (float-tells binary32, tt)))
       (λ κs qs bounds a _ _. via 𝓤 _ (fst∗ 𝓤 _ (emp 𝓤)) (walk 𝓤 H A W at-mem run (κs .0) (qs .0) (a .0 .ptr .0) (a .0 .ptr .1) (a .0 .name) (a .0 .now) (a .1 .0) C Λ fm known))
 
-f-meets : {M : Type 1} (𝓤 : URA M) (H : Heap 𝓤) (A : Atoms 𝓤) → Given 𝓤 H A → (at-mem : Memory → SProp 𝓤) (run : Routine → Fun 𝓤) (𝓣 : Tables 𝓤 H) → Triple 𝓤 (𝓣 .C #variable-shape·set-master-phase) (SetPhase 𝓤 H A at-mem run)
+f-meets : {M : Type 1} (𝓤 : URA M) (H : Heap 𝓤) (A : Atoms 𝓤) → Given 𝓤 H A → (at-mem : Memory → SProp 𝓤) (run : Routine → Fun 𝓤) (𝓣 : Tables 𝓤 H) → Triple 𝓤 (𝓣 .C #master-phase·set-master-phase) (SetPhase 𝓤 H A at-mem run)
     → Meets 𝓤 H A f.signature (WpFn 𝓤 H (𝓣 .C) (𝓣 .Λ) code.function) (f.spec 𝓤 H A at-mem run)
 f-meets 𝓤 H A W at-mem run 𝓣 known =
     walk-meets 𝓤 H A f.ended stayed W (goes-ref 𝓤 H A W 1 0 tt (plain (λ _. T.the-row)), (goes-none 𝓤 H A W 1 (λ _. f32) yes (λ κs x f. refl), tt)) (f.clauses 𝓤 H A at-mem run)
@@ -152,6 +152,6 @@ pub set-master-phase-in-spec : {M : Type 1} → stated.statement M
 unfolding code.routine tablesOf
 set-master-phase-in-spec 𝓤 H 𝓜 𝓖 𝓡 =
     entered 𝓤 H (tripleOf 𝓤 H (𝓖 .A) f.signature (f.spec 𝓤 H (𝓖 .A) (𝓜 .mem) (𝓡 .run)))
-    (tables 𝓤 H 𝓜 𝓡 code.env .C) (tables 𝓤 H 𝓜 𝓡 code.env .Λ) #variable-shape·set-master-phase-in code.function (code.unfolded 𝓤 H 𝓜 𝓡)
+    (tables 𝓤 H 𝓜 𝓡 code.env .C) (tables 𝓤 H 𝓜 𝓡 code.env .Λ) #master-phase·set-master-phase-in code.function (code.unfolded 𝓤 H 𝓜 𝓡)
     (f-meets 𝓤 H (𝓖 .A) (givenOf 𝓤 H 𝓜 𝓖) (𝓜 .mem) (𝓡 .run) (tablesOf 𝓤 H 𝓜 (tables 𝓤 H 𝓜 𝓡 code.env))
-    (cited 𝓤 H (SetPhase 𝓤 H (𝓖 .A) (𝓜 .mem) (𝓡 .run)) 𝓜 𝓡 code.env #variable-shape·set-master-phase g-def.routine code.calls-variable-shape·set-master-phase (g-thm.met 𝓤 H 𝓜 𝓖 𝓡)))
+    (cited 𝓤 H (SetPhase 𝓤 H (𝓖 .A) (𝓜 .mem) (𝓡 .run)) 𝓜 𝓡 code.env #master-phase·set-master-phase g-def.routine code.calls-master-phase·set-master-phase (g-thm.met 𝓤 H 𝓜 𝓖 𝓡)))

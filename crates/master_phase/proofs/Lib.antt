@@ -1,0 +1,2 @@
+-- Two outcomes coincide.
+pub mod Tight

@@ -1,0 +1,2 @@
+-- The setting of the master's phase.
+pub mod MasterPhase
