@@ -1,0 +1,10 @@
+-- `states::string_synth::init` meets its contract: field by field. Assumes nothing.
+use mathlib.Core.Path.{refl}
+use Rattle.states.proofs.string_synth.init.Statement.{statement}
+use Rattle.states.proofs.string_synth.init.Tie as tie
+
+returns : tie.Need-returns
+returns c = refl
+
+pub init-spec : {M : Type 1} → statement M
+init-spec = tie.close (tie.spec returns)
