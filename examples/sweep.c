@@ -37,7 +37,7 @@ int main(void)
         float peak = 0.0f;
         for (int k = 0; k < 64; k++)
             peak = block[k] > peak ? block[k] : -block[k] > peak ? -block[k] : peak;
-        printf("frequency %-10.8g answer %u, %u cycles, %u rises, peak %.3f: %s\n", frequencies[i], (unsigned)result[0], (unsigned)result[2], (unsigned)result[3], peak, meaning(result[0]));
+        printf("frequency %-12.8g answer %u, %u cycles, %u rises, peak %.3f: %s\n", frequencies[i], (unsigned)result[0], (unsigned)result[2], (unsigned)result[3], peak, meaning(result[0]));
     }
     return 0;
 }

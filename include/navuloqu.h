@@ -11,8 +11,8 @@
  * Whatever the answer but 0, the state's words and all samples are as they were, and the counts are 0.
  * A NaN that a call leaves in the state is the word 0x7fc00000.
  *
- * Pointers must be valid for what is said of them here, and must not overlap; nothing else is asked of the caller: every bit pattern of
- * every parameter and state is answered. */
+ * Pointers must be valid for what is said of them here, and must not overlap; a bool is 0 or 1; nothing else is asked of the caller:
+ * every bit pattern of every float, whole number and state word is answered. */
 #ifndef NAVULOQU_H
 #define NAVULOQU_H
 
