@@ -3,10 +3,9 @@
 -- That a call ends, and that it is the definition's, is the contract of each `render`, which asks nothing of its caller; the order stands in each `renderOf`. Here: whatever its
 -- answer but 0, a call is a refusal, which gives the state back, counts nothing and leaves the buffer. Assumes nothing.
 use mathlib.Core.Path.{_≡_, refl}
-use mathlib.Core.Bool.{Bool, true}
+use mathlib.Core.Bool.{Bool}
 use mathlib.Core.Logic.{_⊎_, inr}
 use mathlib.Core.List.{List}
-use Prim.Native.Nat.{ℕ}
 use lib.Ieee.{Float}
 use Rattle.block.specs.Calls.{Call, refusal}
 use Rattle.block.proofs.CallLaws.{run-refused}

@@ -1,12 +1,12 @@
 -- A whole call of the NES triangle: nes_triangle_oscillator.rs, lines 34 to 141, with 01's refusals before it. Assumes nothing.
-use mathlib.Core.Bool.{Bool, true, false, not, _&&_, cond}
+use mathlib.Core.Bool.{Bool, false, not, _&&_, cond}
 use mathlib.Core.List.{List, [], _∷_}
 use Prim.Native.Nat.{ℕ, _^_}
 use lib.Dec.{T, ltb}
 use lib.IntN.{ℤ, pos, negsuc}
 use lib.ListN.{length}
 use lib.Ieee.{Float, binary32, fits}
-use Rattle.floats.specs.F32.{f32, zero32, maxFrequency}
+use Rattle.floats.specs.F32.{maxFrequency}
 use Rattle.floats.specs.Helpers.{minOf}
 use Rattle.parameter_interpolator.specs.declared.ParameterInterpolator.{ParameterInterpolator}
 use Rattle.parameter_interpolator.specs.Interpolator.{newInterpolator}

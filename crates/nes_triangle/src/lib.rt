@@ -1,6 +1,5 @@
 // A triangle approximated by discrete steps: the source's oscillator/nes_triangle_oscillator.rs.
 ghost use mathlib.Core.Path.{_≡_};
-ghost use mathlib.Core.Bool.{true};
 ghost use mathlib.Core.List.{[], _∷_};
 ghost use Rattle.block.specs.Calls.{run, playedOf};
 ghost use Rattle.nes_triangle.specs.Sample.{sampleAt};

@@ -7,7 +7,7 @@ use lib.IntN.{pos}
 use lib.ListN.{length}
 use lib.Signed.{leZ}
 use lib.Ieee.{Float, binary32, fits, lt, le}
-use Rattle.floats.specs.F32.{f32, zero32, half32, four32, eight32, topStringStep}
+use Rattle.floats.specs.F32.{zero32, half32, four32, eight32, topStringStep}
 use Rattle.parameter_interpolator.specs.declared.ParameterInterpolator.{ParameterInterpolator}
 use Rattle.parameter_interpolator.specs.Interpolator.{newInterpolator}
 use Rattle.rooms.specs.declared.Room.{Room}

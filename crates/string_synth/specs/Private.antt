@@ -16,12 +16,9 @@ use Rattle.rooms.specs.declared.Found.the-variants.{Nowhere}
 use Rattle.block.specs.Counting.{noCounts}
 use Rattle.ranges.specs.Ranges.{within}
 use Rattle.rooms.specs.Steps.{stepsOf, firstOutside}
-use Rattle.block.specs.Play.{play}
-use Rattle.block.specs.Calls.{Call, done}
 use Rattle.states.specs.declared.string_synth.State.{State}
 use Rattle.string_synth.specs.declared.Rendered.{Rendered}
 use Rattle.string_synth.specs.declared.sample.Saws.{Saws}
-use Rattle.string_synth.specs.Sample.{sampleAt}
 use Rattle.string_synth.specs.Block.{gainsIn, rooms}
 
 -- the phase is a binary32 value of at least 0 and below 8, the segment one of the eight, and the frequency and the gains pass their tests

@@ -14,11 +14,8 @@ use Rattle.rooms.specs.declared.Found.the-variants.{Nowhere}
 use Rattle.block.specs.Counting.{noCounts}
 use Rattle.ranges.specs.Ranges.{frequencyIn}
 use Rattle.rooms.specs.Steps.{stepsOf, firstOutside}
-use Rattle.block.specs.Play.{play}
-use Rattle.block.specs.Calls.{Call, done}
 use Rattle.states.specs.declared.super_square.State.{State}
 use Rattle.super_square.specs.declared.Rendered.{Rendered}
-use Rattle.super_square.specs.Sample.{sampleAt}
 use Rattle.super_square.specs.Block.{rooms}
 
 -- both phases are binary32 values of at least 0 and below 1, and the frequencies pass their test

@@ -14,11 +14,8 @@ use Rattle.rooms.specs.declared.Found.the-variants.{Nowhere}
 use Rattle.block.specs.Counting.{noCounts}
 use Rattle.ranges.specs.Ranges.{frequencyIn, unitIn, waveshapeIn}
 use Rattle.rooms.specs.Steps.{stepsOf, firstOutside}
-use Rattle.block.specs.Play.{play}
-use Rattle.block.specs.Calls.{Call, done}
 use Rattle.states.specs.declared.variable_saw.State.{State}
 use Rattle.variable_saw.specs.declared.Rendered.{Rendered}
-use Rattle.variable_saw.specs.Sample.{sampleAt}
 use Rattle.variable_saw.specs.Block.{rooms}
 
 -- what the phase stays below: 1 when `high` is false; when it is true, the next number of units after 81/64

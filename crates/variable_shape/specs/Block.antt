@@ -1,11 +1,11 @@
 -- A whole call of the variable shape: variable_shape_oscillator.rs, lines 57 to 211, with 01's refusals before it. Assumes nothing.
-use mathlib.Core.Bool.{Bool, false, not, _&&_, cond}
+use mathlib.Core.Bool.{Bool, not, _&&_, cond}
 use mathlib.Core.List.{List, [], _∷_}
 use Prim.Native.Nat.{ℕ}
 use lib.Dec.{T, ltb}
 use lib.ListN.{length}
 use lib.Ieee.{Float, binary32, fits, neg}
-use Rattle.floats.specs.F32.{f32, zero32, half32, eight32}
+use Rattle.floats.specs.F32.{eight32}
 use Rattle.parameter_interpolator.specs.declared.ParameterInterpolator.{ParameterInterpolator}
 use Rattle.parameter_interpolator.specs.Interpolator.{newInterpolator}
 use Rattle.rooms.specs.declared.Room.{Room}

@@ -18,14 +18,11 @@ use Rattle.rooms.specs.declared.Found.the-variants.{Nowhere}
 use Rattle.block.specs.Counting.{noCounts}
 use Rattle.ranges.specs.Ranges.{waveshapeIn, sixteenIn}
 use Rattle.rooms.specs.Steps.{stepsOf, firstOutside}
-use Rattle.block.specs.Play.{play}
-use Rattle.block.specs.Calls.{Call, done}
 use Rattle.edges.proofs.Crossings.{Crossable}
 use Rattle.states.specs.declared.variable_shape.State.{State}
 use Rattle.variable_shape.specs.declared.Rendered.{Rendered}
 use Rattle.variable_shape.specs.declared.steps.Interpolators.{Interpolators}
 use Rattle.variable_shape.specs.declared.steps.Steps.{Steps}
-use Rattle.variable_shape.specs.Sample.{sampleAt}
 use Rattle.variable_shape.specs.Block.{stateIn, stepping, rooms}
 
 -- a state in its ranges, whose phases are binary32 values

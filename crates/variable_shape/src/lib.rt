@@ -6,7 +6,6 @@ ghost use Rattle.variable_shape.specs.Block.{stateIn, parametersIn, step
 ghost use Rattle.variable_shape.specs.Private.{Fit, Playable, refused, modulationRoom};
 use block::Answer;
 use block::Counts;
-use parameter_interpolator::ParameterInterpolator;
 use rooms::Found;
 use rooms::Room;
 use steps::Interpolators;
