@@ -5,5 +5,6 @@ pub mod Runs
 pub mod Accounts
 pub mod Limits
 pub mod CallLaws
+pub mod Neither
 pub mod Contracts
 pub mod Tight

@@ -1,5 +1,5 @@
 -- A call that is fit: Drift where the walk finds a step outside, else the samples. For any oscillator. Assumes nothing.
-use mathlib.Core.Path.{_≡_, ap}
+use mathlib.Core.Path.{_≡_, sym, ap, _∙_}
 use mathlib.Core.List.{List}
 use Prim.Native.Nat.{ℕ}
 use lib.ListN.{length}
@@ -11,7 +11,7 @@ use Rattle.rooms.specs.declared.Found.the-variants.{Outside, Nowhere}
 use Rattle.block.specs.Counting.{noCounts}
 use Rattle.rooms.specs.Steps.{stepsOf, firstOutside}
 use Rattle.block.specs.Play.{Sample, play}
-use Rattle.block.specs.Calls.{refusal, done, driftOr, run}
+use Rattle.block.specs.Calls.{refusal, done, driftOr, run, playedOf}
 
 module _ {S : Type 0} (make : S → List Float → Float → Sample S) (rooms : List Room) (ps : List ParameterInterpolator) (s : S) (xs : List Float) where
   pub run-drift : (i : ℕ) → firstOutside rooms (stepsOf (length xs) ps) ≡ Outside i → run make rooms ps s xs ≡ refusal 6 i s xs
@@ -21,3 +21,11 @@ module _ {S : Type 0} (make : S → List Float → Float → Sample S) (rooms : 
   pub run-done : firstOutside rooms (stepsOf (length xs) ps) ≡ Nowhere → run make rooms ps s xs ≡ done (play make s noCounts (stepsOf (length xs) ps) xs)
   unfolding run
   run-done h = ap (λ (f : Found). driftOr f s xs (play make s noCounts (stepsOf (length xs) ps) xs)) h
+
+  -- as the walk's answer tells it
+  module _ (found : Found) (walked : found ≡ firstOutside rooms (stepsOf (length xs) ps)) where
+    pub walk-drift : (i : ℕ) → found ≡ Outside i → refusal 6 i s xs ≡ run make rooms ps s xs
+    walk-drift i h = sym (run-drift i (sym walked ∙ h))
+
+    pub walk-done : found ≡ Nowhere → playedOf make s ps xs ≡ run make rooms ps s xs
+    walk-done h = sym (run-done (sym walked ∙ h))

@@ -3,4 +3,5 @@ pub mod Answers
 pub mod Counting
 pub mod Play
 pub mod Calls
+pub mod Fit
 pub mod Account

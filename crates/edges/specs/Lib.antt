@@ -1,3 +1,4 @@
--- The crossings of a sample, and a hard sync reset.
+-- The crossings of a sample, a hard sync reset, and the triangle.
 pub mod Crossings
 pub mod Sync
+pub mod Triangle

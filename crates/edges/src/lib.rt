@@ -2,6 +2,8 @@
 ghost use mathlib.Core.Path.{_≡_};
 ghost use Rattle.edges.specs.Sync.{slaveAtReset, wrapOnce, transitionDuringReset, cutEdge};
 
+pub mod triangle;
+
 // The slave's phase and side, the sample and what the next one starts with, and the crossings so far.
 pub struct Edge {
     pub phase: f32,

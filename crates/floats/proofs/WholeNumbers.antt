@@ -8,9 +8,10 @@ use lib.Ieee.{Float, nan, inf, fin, binary32, up, round, ofInt}
 use lib.Ieee.Back.{round-whole}
 use lib.Ieee.Exact.{HasValue}
 use lib.Ieee.Fits.{ofInt-fits}
+use Rattle.floats.specs.F32.{whole32}
 use Rattle.floats.proofs.At.{At, Reads}
 
-pub whole-at : (n : ℕ) → n ≤ 2 ^ 24 → At (ofInt binary32 (pos n)) (n * 2 ^ 149)
+pub whole-at : (n : ℕ) → n ≤ 2 ^ 24 → At (whole32 n) (n * 2 ^ 149)
 unfolding ofInt
 whole-at n h = record { fit = ofInt-fits binary32 (pos n); reads = go (round binary32 false n 1) (round-whole binary32 false n h) }
   where

@@ -1,6 +1,7 @@
 -- binary32 in short: Rust's operators on `f32`, and the oscillators' constants, each written from its bit pattern.
 -- The operators are IEEE 754-2019's, rounded once to nearest even: the kit's `lib.Ieee` defines them. Assumes nothing.
 use Prim.Native.Nat.{ℕ}
+use lib.IntN.{pos}
 use lib.Ieee as Ieee
 use lib.Ieee.{Float, binary32, ofBits}
 
@@ -23,6 +24,10 @@ x ⊘ y = Ieee.div binary32 x y
 -- the number that a bit pattern stands for; every NaN's pattern stands for the one `nan`
 abbrev pub f32 : ℕ → Float
 f32 b = ofBits binary32 b
+
+-- Rust's `as f32` of a whole number, rounded once; up to 2^24 it is exact
+abbrev pub whole32 : ℕ → Float
+whole32 n = Ieee.ofInt binary32 (pos n)
 
 -- 0.0
 abbrev pub zero32 : Float

@@ -1,7 +1,7 @@
 -- A whole call of the NES triangle, in plain values: each way out of `render` is the definition's. Assumes nothing.
-use mathlib.Core.Path.{_≡_, refl, sym, ap, _∙_}
+use mathlib.Core.Path.{_≡_, refl, sym, _∙_}
 use mathlib.Core.Bool.{true, false, true≢false}
-use mathlib.Core.List.{List, [], _∷_, _++_}
+use mathlib.Core.List.{List, [], _∷_}
 use Prim.Native.Nat.{ℕ, _^_, _≤_, _<_}
 use borrow.Author.Tests.{lt-ltb, le-ltb, ltb-true, leb-true}
 use lib.Dec.{leb}
@@ -12,38 +12,18 @@ use Rattle.floats.specs.F32.{maxFrequency}
 use Rattle.floats.specs.Helpers.{minOf}
 use Rattle.parameter_interpolator.specs.declared.ParameterInterpolator.{ParameterInterpolator}
 use Rattle.parameter_interpolator.specs.Interpolator.{newInterpolator}
-use Rattle.block.specs.declared.Answer.the-variants.{LongBlock, BadState, BadParam, Drift}
-use Rattle.rooms.specs.declared.Found.{Found}
-use Rattle.rooms.specs.declared.Found.the-variants.{Outside, Nowhere}
-use Rattle.rooms.specs.Steps.{stepsOf, firstOutside}
+use Rattle.block.specs.declared.Answer.the-variants.{LongBlock, BadState, BadParam}
 use Rattle.ranges.specs.Ranges.{parameterFrequencyIn}
-use Rattle.block.specs.Calls.{run, playedOf}
+use Rattle.block.specs.Calls.{run}
+use Rattle.block.specs.Fit.{Fit}
 use Rattle.rooms.proofs.RangeLaws.{phase-under, under-phase}
 use Rattle.ranges.proofs.Bools.{and-both}
-use Rattle.rooms.proofs.Padding.{unused, padded}
-use Rattle.block.proofs.Runs.{run-drift, run-done}
 use Rattle.states.specs.declared.nes_triangle.State.{State}
 use Rattle.nes_triangle.specs.declared.Rendered.{Rendered}
 use Rattle.nes_triangle.specs.Depth.{bitsIn, testedBits}
 use Rattle.nes_triangle.specs.Sample.{sampleAt}
 use Rattle.nes_triangle.specs.Block.{stepIn, stateIn, parametersIn, rooms, renderOf, left, Phase32}
-use Rattle.nes_triangle.specs.Private.{Below, Valid, BitsIn, Fit, Playable, refused}
-
--- the walk's answer, over the five places that it takes
-module _ (bits : ℕ) (s : State) (f still : ParameterInterpolator) (xs : List Float) (found : Found)
-    (walked : found ≡ firstOutside (rooms ++ unused 4) (stepsOf (length xs) ((f ∷ []) ++ still ∷ still ∷ still ∷ still ∷ []))) where
-  searched : found ≡ firstOutside rooms (stepsOf (length xs) (f ∷ []))
-  searched = walked ∙ padded (length xs) rooms 4 (f ∷ []) (still ∷ still ∷ still ∷ still ∷ []) refl
-
-  pub drifted : (i : ℕ) (r : Rendered) → found ≡ Outside i → r ≡ refused (Drift i) s → left r xs ≡ run (sampleAt bits) rooms (f ∷ []) s xs
-  drifted i r h e = ap (λ (q : Rendered). left q xs) e ∙ sym (run-drift (sampleAt bits) rooms (f ∷ []) s xs i (sym searched ∙ h))
-
-  module _ (h : found ≡ Nowhere) where
-    pub playable : Fit bits s xs → Playable bits s (f ∷ []) xs
-    playable k = record { fit = k; inside = sym searched ∙ h }
-
-    pub played : (r : Rendered) (after : List Float) → left r after ≡ playedOf (sampleAt bits) s (f ∷ []) xs → left r after ≡ run (sampleAt bits) rooms (f ∷ []) s xs
-    played r after e = e ∙ sym (run-done (sampleAt bits) rooms (f ∷ []) s xs (sym searched ∙ h))
+use Rattle.nes_triangle.specs.Private.{Below, Valid, BitsIn, Passed, refused}
 
 -- ---- what passed the tests
 pub bits-of : (frequency : Float) (bits : ℕ) → parametersIn frequency bits ≡ true → bitsIn bits ≡ true
@@ -71,8 +51,8 @@ of-valid bits s b v =
     let step : stepIn bits (s .step) ≡ true = rw (v .step .is, b) (lt-ltb (v .step .n) (2 ^ bits) (v .step .under)) in
     rw (under-phase (v .phase), v .frequency, step)
 
-pub fit-of : (s : State) (frequency : Float) (bits : ℕ) (xs : List Float) → Phase32 s → length xs ≤ 4096 → stateIn s bits ≡ true → parametersIn frequency bits ≡ true → Fit bits s xs
-fit-of s frequency bits xs t l a b = let k = bits-of frequency bits b in record { short = l; bits-in = bits-in-of bits k; valid = valid-of bits s t k a }
+pub fit-of : (s : State) (frequency : Float) (bits : ℕ) (xs : List Float) → Phase32 s → length xs ≤ 4096 → stateIn s bits ≡ true → parametersIn frequency bits ≡ true → Fit (Passed bits) s xs
+fit-of s frequency bits xs t l a b = let k = bits-of frequency bits b in record { short = l; valid = record { bits-in = bits-in-of bits k; valid = valid-of bits s t k a } }
 
 module _ (s : State) (frequency : Float) (bits : ℕ) (xs : List Float) (r : Rendered) where
   pub long-block : 4096 < length xs → r ≡ refused LongBlock s → left r xs ≡ renderOf s frequency bits xs

@@ -12,6 +12,7 @@ use Rattle.block.specs.Counting.{noCounts, plus, wrapped}
 use Rattle.rooms.specs.Steps.{moved, values}
 use Rattle.block.specs.Play.{Sample, Heard}
 use Rattle.block.specs.Calls.{done, playedOf}
+use Rattle.block.specs.Fit.{Playable}
 use Rattle.block.proofs.Plays.{Playing, playing-start, playing-inside, playing-counts, playing-more, playing-end}
 use Rattle.states.specs.declared.nes_triangle.State.{State}
 use Rattle.nes_triangle.specs.declared.depth.Depth.{Depth}
@@ -19,15 +20,15 @@ use Rattle.nes_triangle.specs.declared.sample.Sampled.{Sampled}
 use Rattle.nes_triangle.specs.Depth.{depthOf}
 use Rattle.nes_triangle.specs.Sample.{sampleOf, sampleAt}
 use Rattle.nes_triangle.specs.Block.{rooms, left}
-use Rattle.nes_triangle.specs.Private.{Valid, BitsIn, Ready, Playable}
+use Rattle.nes_triangle.specs.Private.{Valid, BitsIn, Ready, Passed}
 use Rattle.nes_triangle.proofs.Keeping.{keeps, ready-of}
 
 abbrev pub Turning : ℕ → State → ParameterInterpolator → List Float → State → ParameterInterpolator → Counts → List Float → ℕ → Type 0
 Turning bits s₀ f₀ out₀ s f c out i = Playing (sampleAt bits) rooms (Valid bits) s₀ (f₀ ∷ []) out₀ s (f ∷ []) c out i
 
 module _ (bits : ℕ) (b : BitsIn bits) (s₀ : State) (f₀ : ParameterInterpolator) (out₀ : List Float) where
-  pub turning-start : (c : Counts) → c ≡ noCounts → Playable bits s₀ (f₀ ∷ []) out₀ → Turning bits s₀ f₀ out₀ s₀ f₀ c out₀ 0
-  turning-start c e h = rw e (playing-start (sampleAt bits) rooms (Valid bits) (keeps bits b) s₀ (f₀ ∷ []) out₀ (h .fit .short) refl (h .fit .valid) (h .inside))
+  pub turning-start : (c : Counts) → c ≡ noCounts → Playable (Passed bits) rooms s₀ (f₀ ∷ []) out₀ → Turning bits s₀ f₀ out₀ s₀ f₀ c out₀ 0
+  turning-start c e h = rw e (playing-start (sampleAt bits) rooms (Valid bits) (keeps bits b) s₀ (f₀ ∷ []) out₀ (h .fit .short) refl (h .fit .valid .valid) (h .inside))
 
   module _ (s : State) (f : ParameterInterpolator) (c : Counts) (out : List Float) (i : ℕ) (p : Turning bits s₀ f₀ out₀ s f c out i) where
     pub turning-end : length out ≤ i → left (record { answer = Done; state = s; counts = c }) out ≡ playedOf (sampleAt bits) s₀ (f₀ ∷ []) out₀

@@ -22,9 +22,10 @@ use Rattle.block.proofs.Plays.{Few, few-none, Inside}
 use Rattle.rooms.proofs.RangeLaws.{phase-under}
 use Rattle.block.proofs.Accounts.{OneSample, steps-one, steps-accounted, CallLaw, Untouched, call-accounts, chain-accounts}
 use Rattle.block.proofs.CallLaws.{few-most, not-done, refusal-untouched, refusal-law, run-law, run-few}
+use Rattle.block.proofs.Neither.{NeitherFallsNorCuts, neither-none, run-neither}
 use Rattle.states.specs.declared.nes_triangle.State.{State}
 use Rattle.nes_triangle.specs.Depth.{testedBits}
-use Rattle.nes_triangle.specs.Sample.{sampleAt}
+use Rattle.nes_triangle.specs.Sample.{finish, sampleOf, sampleAt}
 use Rattle.states.specs.NesTriangle.{newState, initState}
 use Rattle.nes_triangle.specs.Block.{stateIn, parametersIn, interpolators, rooms, renderOf, Arguments, callOf, usedOf, Phase32}
 use Rattle.nes_triangle.specs.Private.{Valid, BitsIn}
@@ -53,6 +54,10 @@ module _ (bits : ℕ) (b : BitsIn bits) where
       → (let c = sampleAt bits s steps x .counts in (c .cycles ≤ 1) × (c .rises ≤ 1) × (c .falls ≡ 0) × (c .cuts ≡ 0))
   sample-limits s steps x v i = let l = law-of bits b s steps v i .1 in (l .phase .once, l .rises, l .falls, l .cuts)
 
+sample-neither : (bits : ℕ) (s : State) (steps : List Float) (x : Float) → NeitherFallsNorCuts (sampleAt bits s steps x .counts)
+unfolding sampleOf finish
+sample-neither bits s steps x = record { falls = refl; cuts = refl }
+
 -- ---- a call
 -- What holds of a state whichever bits the next call has. Its step may be one that those bits refuse.
 abbrev PhaseKept : State → Type 0
@@ -76,6 +81,10 @@ module _ (s : State) (a : Arguments) where
       go false h q k = refused 3 refl
       go true h false k = refused 4 refl
       go true h true k = answered h k
+
+  -- 01: "For NES and string .. falls and cuts are 0"
+  pub call-neither : NeitherFallsNorCuts (callOf s a .counts)
+  call-neither = by-ways (λ (c : Call State). NeitherFallsNorCuts (c .counts)) (λ number h. neither-none) (λ h k. run-neither (sampleAt (a .bits)) (sample-neither (a .bits)) rooms _ s (a .buffer))
 
   abbrev used : Call State → List Float
   used c = usedBy c 0 (length (a .buffer)) (interpolators s (a .frequency) (length (a .buffer)))

@@ -13,7 +13,7 @@ use lib.Dec.{leb, eqb, lit≤}
 use lib.IntN.{natAbs}
 use lib.Pow.{pow-pos}
 use lib.Ieee.{Float}
-use Rattle.floats.specs.F32.{_⊕_, _⊗_}
+use Rattle.floats.specs.F32.{whole32, _⊕_, _⊗_}
 use Rattle.floats.proofs.At.{At}
 use Rattle.floats.proofs.Ticks.{tick, cycle, cycle-is, tick-pos, Sum}
 use Rattle.floats.proofs.Turn.{Step, turn-1, turn-sum, turn-by}
@@ -25,7 +25,7 @@ use Rattle.ranges.proofs.Bools.{and-both}
 use Rattle.states.specs.declared.nes_triangle.State.{State}
 use Rattle.nes_triangle.specs.declared.depth.Depth.{Depth}
 use Rattle.nes_triangle.specs.declared.sample.Turn.{Turn}
-use Rattle.nes_triangle.specs.Depth.{wholeF32, depthOf}
+use Rattle.nes_triangle.specs.Depth.{depthOf}
 use Rattle.nes_triangle.specs.Sample.{wrapPhase, wrapStep, turnOf}
 use Rattle.nes_triangle.specs.Private.{Ready}
 use Rattle.nes_triangle.proofs.Depths.{few-steps, top-most}
@@ -47,10 +47,10 @@ module _ {x : Float} {n : ℕ} (bits : ℕ) (few : bits ≤ 16) (p : At x n) (h 
   pub whole-under : n * 2 ^ bits / 2 ^ 149 < 2 * 2 ^ bits
   whole-under = div-lt-iff-lt-mul (pow-pos 149) .1 below
 
-  product : At (x ⊗ wholeF32 (2 ^ bits)) (n * 2 ^ bits)
+  product : At (x ⊗ whole32 (2 ^ bits)) (n * 2 ^ bits)
   product = mul-pow bits p (whole-at (2 ^ bits) (le-trans (few-steps bits few) (lit≤ tt))) (lt-of-lt-of-le below (le-trans (mul-le-mul-right (2 ^ 149) most) (lit≤ tt)))
 
-  pub whole-is : wholePart (x ⊗ wholeF32 (2 ^ bits)) ≡ n * 2 ^ bits / 2 ^ 149
+  pub whole-is : wholePart (x ⊗ whole32 (2 ^ bits)) ≡ n * 2 ^ bits / 2 ^ 149
   whole-is =
       let l : n * 2 ^ bits / 2 ^ 149 < 131072 = lt-of-lt-of-le whole-under most in
       ap (λ (k : ℕ). min k 131072) (unsigned-at 32 product (lt-of-lt-of-le l (lit≤ tt))) ∙ uncapped (n * 2 ^ bits / 2 ^ 149) 131072 l

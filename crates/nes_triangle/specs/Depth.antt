@@ -2,9 +2,8 @@
 use mathlib.Core.Bool.{Bool, _&&_, cond}
 use Prim.Native.Nat.{ℕ, _-_, _/_, _^_}
 use lib.Dec.{leb, eqb}
-use lib.IntN.{pos}
-use lib.Ieee.{Float, binary32, ofInt}
-use Rattle.floats.specs.F32.{_⊘_, two32, four32}
+use lib.Ieee.{Float}
+use Rattle.floats.specs.F32.{whole32, _⊘_, two32, four32}
 use Rattle.nes_triangle.specs.declared.depth.Depth.{Depth}
 
 -- 01, "Parameters": `num_bits` 1 to 16
@@ -15,17 +14,13 @@ bitsIn bits = leb 1 bits && leb bits 16
 abbrev pub testedBits : ℕ → ℕ
 testedBits bits = cond (bitsIn bits) bits 16
 
--- a whole number `as f32`
-abbrev pub wholeF32 : ℕ → Float
-wholeF32 n = ofInt binary32 (pos n)
-
 -- line 39: the value that the falling half counts down from
 abbrev pub topOf : ℕ → ℕ
 topOf numSteps = cond (eqb numSteps 2) 2 (numSteps - 1)
 
 -- lines 41 to 45
 abbrev pub scaleOf : ℕ → ℕ → Float
-scaleOf numSteps top = cond (eqb numSteps 2) two32 (four32 ⊘ wholeF32 (top - 1))
+scaleOf numSteps top = cond (eqb numSteps 2) two32 (four32 ⊘ whole32 (top - 1))
 
 -- lines 37 to 45: all constants needed to scale the waveform and its discontinuities
 unfoldable pub depthOf : ℕ → Depth
@@ -35,6 +30,6 @@ depthOf bits =
       «num_steps» = numSteps;
       half = numSteps / 2;
       top = topOf numSteps;
-      «num_steps_f» = wholeF32 numSteps;
+      «num_steps_f» = whole32 numSteps;
       scale = scaleOf numSteps (topOf numSteps);
     }

@@ -2,24 +2,18 @@
 -- A tick is 2^-24: 4456448 ticks are 17/64, and 21233664 are 81/64. Assumes nothing.
 use mathlib.Core.Path.{_≡_}
 use mathlib.Core.Bool.{true}
-use mathlib.Core.List.{List}
 use Prim.Native.Nat.{ℕ, _*_, _^_, _≤_, _<_}
 use lib.IntN.{ℤ, pos}
-use lib.ListN.{length}
 use lib.Ieee.{Float}
 use Rattle.floats.proofs.Ticks.{tick, cycle}
 use Rattle.floats.proofs.Ranges.{Under, Positive}
-use Rattle.parameter_interpolator.specs.declared.ParameterInterpolator.{ParameterInterpolator}
 use Rattle.block.specs.declared.Answer.{Answer}
-use Rattle.rooms.specs.declared.Found.the-variants.{Nowhere}
 use Rattle.block.specs.Counting.{noCounts}
 use Rattle.ranges.specs.Ranges.{frequencyIn}
-use Rattle.rooms.specs.Steps.{stepsOf, firstOutside}
 use Rattle.states.specs.declared.nes_triangle.State.{State}
 use Rattle.nes_triangle.specs.declared.Rendered.{Rendered}
 use Rattle.nes_triangle.specs.declared.depth.Depth.{Depth}
 use Rattle.nes_triangle.specs.Depth.{depthOf}
-use Rattle.nes_triangle.specs.Block.{rooms}
 
 -- z is a whole number from 0 up and below m
 pub record Below (z : ℤ) (m : ℕ) : Type 0 where
@@ -46,15 +40,10 @@ pub record Ready (d : Depth) (s : State) (frequency : Float) : Type 0 where
   pub valid : Valid bits s
   pub some : Positive frequency (4456448 * tick)
 
--- what is left to find out is whether a step leaves its room
-pub record Fit (bits : ℕ) (s : State) (xs : List Float) : Type 0 where
-  pub short : length xs ≤ 4096
+-- the bits and the state of a call that passed their tests
+pub record Passed (bits : ℕ) (s : State) : Type 0 where
   pub bits-in : BitsIn bits
   pub valid : Valid bits s
-
-pub record Playable (bits : ℕ) (s : State) (ps : List ParameterInterpolator) (xs : List Float) : Type 0 where
-  pub fit : Fit bits s xs
-  pub inside : firstOutside rooms (stepsOf (length xs) ps) ≡ Nowhere
 
 abbrev pub refused : Answer → State → Rendered
 refused answer s = record { answer = answer; state = s; counts = noCounts }

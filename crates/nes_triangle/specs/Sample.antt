@@ -8,7 +8,7 @@ use lib.Dec.{ltb, leb, eqb}
 use lib.IntN.{pos, natAbs}
 use lib.ListN.{getD}
 use lib.Ieee.{Float, lt, le, ne, neg}
-use Rattle.floats.specs.F32.{_⊕_, _⊖_, _⊗_, _⊘_, zero32, half32, one32, two32, four32}
+use Rattle.floats.specs.F32.{whole32, _⊕_, _⊖_, _⊗_, _⊘_, zero32, half32, one32, two32, four32}
 use Rattle.floats.specs.Helpers.{clampOf}
 use Rattle.polyblep.specs.Polyblep.{thisBlepSample, nextBlepSample, thisIntegratedBlepSample, nextIntegratedBlepSample}
 use Rattle.whole_part.specs.WholePart.{wholePart}
@@ -20,7 +20,7 @@ use Rattle.nes_triangle.specs.declared.sample.Turn.{Turn}
 use Rattle.nes_triangle.specs.declared.sample.Gains.{Gains}
 use Rattle.nes_triangle.specs.declared.sample.Samples.{Samples}
 use Rattle.nes_triangle.specs.declared.sample.Sampled.{Sampled}
-use Rattle.nes_triangle.specs.Depth.{wholeF32, depthOf}
+use Rattle.nes_triangle.specs.Depth.{depthOf}
 
 -- line 84
 abbrev pub wrapPhase : Float → Bool → Float
@@ -80,7 +80,7 @@ stepSign numSteps half nextStep =
 -- a step of the NES triangle, lines 100 to 105
 unfoldable pub edgeOf : Turn → Float → Float → Float → Samples → Samples
 edgeOf w numStepsF frequency discontinuity x =
-    let frac = w .phase ⊗ numStepsF ⊖ wholeF32 (w .«next_step») in
+    let frac = w .phase ⊗ numStepsF ⊖ whole32 (w .«next_step») in
     let t = frac ⊘ (frequency ⊗ numStepsF) in
     cond (w .changed && ne discontinuity zero32)
     (record {
@@ -125,7 +125,7 @@ unfoldable pub finish : Depth → State → Turn → Gains → Samples → Float
 finish d s t g x frequency = record {
   state = record {
     phase = t .phase;
-    «next_sample» = x .«next_sample» ⊕ g .«nes_gain» ⊗ wholeF32 (nesLevel (t .«next_step») (d .half) (d .top)) ⊕ g .«tri_gain» ⊗ triLevel (t .phase);
+    «next_sample» = x .«next_sample» ⊕ g .«nes_gain» ⊗ whole32 (nesLevel (t .«next_step») (d .half) (d .top)) ⊕ g .«tri_gain» ⊗ triLevel (t .phase);
     step = pos (t .«next_step»);
     ascending = t .wrap || (s .ascending && not (le half32 (t .reached)));
     frequency = frequency;

@@ -1,10 +1,12 @@
 // A triangle approximated by discrete steps: the source's oscillator/nes_triangle_oscillator.rs.
 ghost use mathlib.Core.Path.{_≡_};
 ghost use mathlib.Core.List.{[], _∷_};
+ghost use Rattle.rooms.specs.Steps.{stepsOf, firstOutside};
 ghost use Rattle.block.specs.Calls.{run, playedOf};
+ghost use Rattle.block.specs.Fit.{Fit, Playable};
 ghost use Rattle.nes_triangle.specs.Sample.{sampleAt};
 ghost use Rattle.nes_triangle.specs.Block.{stepIn, stateIn, parametersIn, rooms, renderOf, left};
-ghost use Rattle.nes_triangle.specs.Private.{Fit, Playable, refused};
+ghost use Rattle.nes_triangle.specs.Private.{Passed, refused};
 use block::Answer;
 use block::Counts;
 use parameter_interpolator::ParameterInterpolator;
@@ -77,17 +79,10 @@ fn refuse(answer: Answer, state: State) -> Rendered
     }
 }
 
-// Drift where a step leaves its room, else the samples.
-fn drift_or_play(
-    state: State,
-    num_bits: u32,
-    fm: ParameterInterpolator,
-    out: &mut [f32],
-) -> Rendered
-    requires { ⌜ Fit «num_bits» state (now out) ⌝ }
-    ensures { λ r. ⌜ left r (now (out .exit)) ≡ run (sampleAt «num_bits») rooms (fm ∷ []) state (now (out .entry)) ⌝ }
+// The first sample with a step outside its room.
+fn walk(fm: ParameterInterpolator, n: u32) -> Found
+    ensures { λ r. ⌜ r ≡ firstOutside rooms (stepsOf n (fm ∷ [])) ⌝ }
 {
-    let n = out.len() as u32;
     let still = ParameterInterpolator {
         value: 0.0,
         increment: 0.0,
@@ -100,7 +95,20 @@ fn drift_or_play(
         Room::Unused,
         Room::Unused,
     ];
-    match rooms::first_outside(moving, kept, n) {
+    rooms::first_outside(moving, kept, n)
+}
+
+// Drift where a step leaves its room, else the samples.
+fn drift_or_play(
+    state: State,
+    num_bits: u32,
+    fm: ParameterInterpolator,
+    out: &mut [f32],
+) -> Rendered
+    requires { ⌜ Fit (Passed «num_bits») state (now out) ⌝ }
+    ensures { λ r. ⌜ left r (now (out .exit)) ≡ run (sampleAt «num_bits») rooms (fm ∷ []) state (now (out .entry)) ⌝ }
+{
+    match walk(fm, out.len() as u32) {
         Found::Outside(i) => refuse(Answer::Drift(i), state),
         Found::Nowhere => play(state, num_bits, fm, out),
     }
@@ -108,7 +116,7 @@ fn drift_or_play(
 
 // Every sample of the buffer.
 fn play(state: State, num_bits: u32, fm: ParameterInterpolator, out: &mut [f32]) -> Rendered
-    requires { ⌜ Playable «num_bits» state (fm ∷ []) (now out) ⌝ }
+    requires { ⌜ Playable (Passed «num_bits») rooms state (fm ∷ []) (now out) ⌝ }
     ensures { λ r. ⌜ left r (now (out .exit)) ≡ playedOf (sampleAt «num_bits») state (fm ∷ []) (now (out .entry)) ⌝ }
 {
     let d = depth::of_bits(num_bits);

@@ -1,7 +1,7 @@
 -- A whole call of the string synth, in plain values: each way out of `render` is the definition's. Assumes nothing.
-use mathlib.Core.Path.{_≡_, refl, sym, ap, _∙_}
+use mathlib.Core.Path.{_≡_, refl, sym, _∙_}
 use mathlib.Core.Bool.{true, false, true≢false, _&&_}
-use mathlib.Core.List.{List, [], _∷_}
+use mathlib.Core.List.{List}
 use Prim.Native.Nat.{ℕ, _≤_, _<_, zero-le}
 use native.Mathlib.Omega.{arith}
 use borrow.Author.Tests.{lt-ltb, le-ltb, eq-eqb, ne-eqb, leb-true, le-leb}
@@ -14,33 +14,16 @@ use Rattle.floats.specs.F32.{half32}
 use Rattle.floats.proofs.Ticks.{eight-at}
 use Rattle.floats.proofs.Ranges.{at-least-0, under-of, under-lt}
 use Rattle.parameter_interpolator.specs.declared.ParameterInterpolator.{ParameterInterpolator}
-use Rattle.parameter_interpolator.specs.Interpolator.{newInterpolator}
-use Rattle.block.specs.declared.Answer.the-variants.{LongBlock, BadRegistration, BadState, BadParam, TooHigh, Drift}
-use Rattle.rooms.specs.declared.Found.{Found}
-use Rattle.rooms.specs.declared.Found.the-variants.{Outside, Nowhere}
-use Rattle.rooms.specs.Steps.{stepsOf, firstOutside}
-use Rattle.block.specs.Calls.{run, playedOf}
+use Rattle.block.specs.declared.Answer.the-variants.{LongBlock, BadRegistration, BadState, BadParam, TooHigh}
+use Rattle.block.specs.Calls.{run}
 use Rattle.ranges.proofs.Bools.{and-both}
-use Rattle.block.proofs.Runs.{run-drift, run-done}
 use Rattle.states.specs.declared.string_synth.State.{State}
 use Rattle.string_synth.specs.declared.Rendered.{Rendered}
 use Rattle.string_synth.specs.declared.sample.Saws.{Saws}
 use Rattle.string_synth.specs.Sample.{sampleAt}
 use Rattle.string_synth.specs.Targets.{targetsOf}
-use Rattle.string_synth.specs.Block.{stateIn, parametersIn, rooms, renderOf, left}
-use Rattle.string_synth.specs.Private.{Valid, Fit, Playable, refused}
-
--- the walk's answer
-module _ (s : State) (ps : List ParameterInterpolator) (xs : List Float) (found : Found) (walked : found ≡ firstOutside rooms (stepsOf (length xs) ps)) where
-  pub drifted : (i : ℕ) (r : Rendered) → found ≡ Outside i → r ≡ refused (Drift i) s → left r xs ≡ run sampleAt rooms ps s xs
-  drifted i r h e = ap (λ (q : Rendered). left q xs) e ∙ sym (run-drift sampleAt rooms ps s xs i (sym walked ∙ h))
-
-  module _ (h : found ≡ Nowhere) where
-    pub playable : Fit s xs → Playable s ps xs
-    playable k = record { fit = k; inside = sym walked ∙ h }
-
-    pub played : (r : Rendered) (after : List Float) → left r after ≡ playedOf sampleAt s ps xs → left r after ≡ run sampleAt rooms ps s xs
-    played r after e = e ∙ sym (run-done sampleAt rooms ps s xs (sym walked ∙ h))
+use Rattle.string_synth.specs.Block.{stateIn, parametersIn, movingTo, rooms, renderOf, left}
+use Rattle.string_synth.specs.Private.{Valid, refused}
 
 -- a segment that passed its test is one of the eight
 segment-of : (z : ℤ) → (leZ (pos 0) z && leZ z (pos 7)) ≡ true → (k : ℕ) × (z ≡ pos k) × (k < 8)
@@ -87,11 +70,7 @@ module _ (s : State) (frequency : Float) (registration : List Float) (gain : Flo
           unfolding renderOf
           too-high h e = rw (le-ltb 4096 (length xs) l, eq-eqb (length registration) 7 n, a, b, h, e)
 
-          pub rendered : lt half32 frequency ≡ false → (to : Saws) (f g8 g4 g2 g1 : ParameterInterpolator) (after : List Float) → to ≡ targetsOf frequency registration gain
-              → f ≡ newInterpolator (s .frequency) (to .frequency) (length xs) → g8 ≡ newInterpolator (s .«saw_8_gain») (to .«saw_8_gain») (length xs)
-              → g4 ≡ newInterpolator (s .«saw_4_gain») (to .«saw_4_gain») (length xs) → g2 ≡ newInterpolator (s .«saw_2_gain») (to .«saw_2_gain») (length xs)
-              → g1 ≡ newInterpolator (s .«saw_1_gain») (to .«saw_1_gain») (length xs)
-              → left r after ≡ run sampleAt rooms (f ∷ g8 ∷ g4 ∷ g2 ∷ g1 ∷ []) s xs → left r after ≡ renderOf s frequency registration gain xs
+          pub rendered : lt half32 frequency ≡ false → (to : Saws) (ps : List ParameterInterpolator) (after : List Float) → to ≡ targetsOf frequency registration gain
+              → ps ≡ movingTo s to (length xs) → left r after ≡ run sampleAt rooms ps s xs → left r after ≡ renderOf s frequency registration gain xs
           unfolding renderOf
-          rendered h to f g8 g4 g2 g1 after at-to at-f at-8 at-4 at-2 at-1 e =
-              e ∙ rw (le-ltb 4096 (length xs) l, eq-eqb (length registration) 7 n, a, b, h, at-f, at-8, at-4, at-2, at-1, at-to)
+          rendered h to ps after at-to at-ps e = e ∙ rw (le-ltb 4096 (length xs) l, eq-eqb (length registration) 7 n, a, b, h, at-ps, at-to)

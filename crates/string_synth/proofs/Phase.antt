@@ -1,31 +1,24 @@
 -- Demand 3 for the string synth: for one sample, for a call and for any chain of calls. A cycle is 8 units of phase.
 -- And the limits of a sample, the counts that a string never has, and which states are valid. Assumes nothing.
-use mathlib.Core.Path.{_≡_, refl, _∙_}
+use mathlib.Core.Path.{_≡_, refl}
 use mathlib.Core.Bool.{true, false, not}
 use mathlib.Core.Logic.{_⊎_}
 use mathlib.Core.List.{List, [], _∷_}
 use Prim.Native.Nat.{ℕ, _*_, _^_, _≤_, zero-le}
-use native.Mathlib.Nat.{add-zero}
 use lib.Dec.{eqb, ltb}
 use lib.ListN.{length, getD}
 use lib.Ieee.{Float, lt, le, neg, ofBits}
 use Rattle.floats.specs.F32.{zero32, half32}
 use Rattle.floats.proofs.At.{At}
 use Rattle.floats.proofs.Ticks.{tick, cycle}
-use Rattle.parameter_interpolator.specs.declared.ParameterInterpolator.{ParameterInterpolator}
 use Rattle.block.specs.declared.Counts.{Counts}
-use Rattle.rooms.specs.declared.Found.{Found}
-use Rattle.rooms.specs.declared.Found.the-variants.{Outside, Nowhere}
-use Rattle.block.specs.Counting.{noCounts}
-use Rattle.rooms.specs.Steps.{stepsOf, firstOutside}
-use Rattle.block.specs.Play.{play}
 use Rattle.block.specs.Account.{Accounted, chain, usedBy}
 use Rattle.block.specs.Calls.{Call, refusal, run}
 use Rattle.ranges.proofs.Bools.{cond-both, by-test, either-way}
 use Rattle.block.proofs.Plays.{Few, few-none, Inside}
-use Rattle.block.proofs.Runs.{run-drift, run-done}
 use Rattle.block.proofs.Accounts.{OneSample, steps-one, steps-accounted, CallLaw, Untouched, call-accounts, chain-accounts}
 use Rattle.block.proofs.CallLaws.{few-most, not-done, refusal-untouched, refusal-law, run-law, run-few}
+use Rattle.block.proofs.Neither.{NeitherFallsNorCuts, neither-none, run-neither}
 use Rattle.states.specs.declared.string_synth.State.{State}
 use Rattle.string_synth.specs.Sample.{finish, sampleOf, sawsOf, sampleAt}
 use Rattle.states.specs.StringSynth.{newState, initState}
@@ -52,29 +45,21 @@ pub sample-accounted : (s : State) (steps : List Float) (x : Float) → Valid s 
 unfolding tick
 sample-accounted s steps x v i = steps-accounted (steps-one (one-sample s steps x v i))
 
--- 01: "For NES and string .. falls and cuts are 0"
-pub record NeitherFallsNorCuts (c : Counts) : Type 0 where
-  pub falls : c .falls ≡ 0
-  pub cuts : c .cuts ≡ 0
-
 -- "No sample counts two cycles, two falls or three rises": a string's counts two of nothing
 pub record Limits (c : Counts) : Type 0 where
   pub cycles : c .cycles ≤ 1
   pub rises : c .rises ≤ 1
   pub neither : NeitherFallsNorCuts c
 
+sample-neither : (s : State) (steps : List Float) (x : Float) → NeitherFallsNorCuts (sampleAt s steps x .counts)
+unfolding sampleOf finish
+sample-neither s steps x = record { falls = refl; cuts = refl }
+
 pub sample-limits : (s : State) (steps : List Float) (x : Float) → Valid s → Inside rooms steps → Limits (sampleAt s steps x .counts)
 unfolding sampleOf finish
 sample-limits s steps x v i =
     let l = reach-law s (sawsOf steps) (stepped-of s steps v i .ready) in
-    record { cycles = l .phase .once; rises = l .rises; neither = record { falls = refl; cuts = refl } }
-
--- however many samples follow
-play-neither : (steps : List (List Float)) (s : State) (c : Counts) (xs : List Float) → NeitherFallsNorCuts c → NeitherFallsNorCuts (play sampleAt s c steps xs .counts)
-unfolding play sampleOf finish
-play-neither [] s c xs h = h
-play-neither (step ∷ steps) s c [] h = h
-play-neither (step ∷ steps) s c (x ∷ xs) h = play-neither steps _ _ xs (record { falls = add-zero (c .falls) ∙ h .falls; cuts = add-zero (c .cuts) ∙ h .cuts })
+    record { cycles = l .phase .once; rises = l .rises; neither = sample-neither s steps x }
 
 -- ---- a call
 module _ (s : State) (a : Arguments) where
@@ -90,16 +75,7 @@ module _ (s : State) (a : Arguments) where
       (cond-both P (lt half32 (a .frequency)) _ _ (refused 5 refl) ran))))
 
   pub call-neither : NeitherFallsNorCuts (callOf s a .counts)
-  call-neither =
-      let ps = interpolators s (a .frequency) (a .registration) (a .gain) (length (a .buffer)) in
-      by-ways (λ (c : Call State). NeitherFallsNorCuts (c .counts)) (λ number h. none) (go ps (firstOutside rooms (stepsOf (length (a .buffer)) ps)) refl)
-    where
-      none : NeitherFallsNorCuts noCounts
-      none = record { falls = refl; cuts = refl }
-
-      go : (ps : List ParameterInterpolator) (f : Found) → firstOutside rooms (stepsOf (length (a .buffer)) ps) ≡ f → NeitherFallsNorCuts (run sampleAt rooms ps s (a .buffer) .counts)
-      go ps (Outside i) h = rw (run-drift sampleAt rooms ps s (a .buffer) i h) none
-      go ps Nowhere h = rw (run-done sampleAt rooms ps s (a .buffer) h) (play-neither (stepsOf (length (a .buffer)) ps) s noCounts (a .buffer) none)
+  call-neither = by-ways (λ (c : Call State). NeitherFallsNorCuts (c .counts)) (λ number h. neither-none) (run-neither sampleAt sample-neither rooms _ s (a .buffer))
 
   module _ (v : Valid s) where
     pub call-law : CallLaw Valid (λ (q : State). q .phase) (8 * cycle) (8 * tick) s (usedOf s a) (callOf s a)

@@ -2,24 +2,17 @@
 -- A tick is 2^-24: 4456448 ticks are 17/64, and 21233664 are 81/64. Assumes nothing.
 use mathlib.Core.Path.{_≡_}
 use mathlib.Core.Bool.{true}
-use mathlib.Core.List.{List}
-use Prim.Native.Nat.{ℕ, _*_, _≤_, _<_}
+use Prim.Native.Nat.{ℕ, _*_, _<_}
 use lib.IntN.{pos}
-use lib.ListN.{length}
-use lib.Ieee.{Float}
 use Rattle.floats.specs.F32.{zero32, topStringStep}
 use Rattle.floats.proofs.Ticks.{cycle}
 use Rattle.floats.proofs.Ranges.{Under}
-use Rattle.parameter_interpolator.specs.declared.ParameterInterpolator.{ParameterInterpolator}
 use Rattle.block.specs.declared.Answer.{Answer}
-use Rattle.rooms.specs.declared.Found.the-variants.{Nowhere}
 use Rattle.block.specs.Counting.{noCounts}
 use Rattle.ranges.specs.Ranges.{within}
-use Rattle.rooms.specs.Steps.{stepsOf, firstOutside}
 use Rattle.states.specs.declared.string_synth.State.{State}
 use Rattle.string_synth.specs.declared.Rendered.{Rendered}
-use Rattle.string_synth.specs.declared.sample.Saws.{Saws}
-use Rattle.string_synth.specs.Block.{gainsIn, rooms}
+use Rattle.string_synth.specs.Block.{gainsIn}
 
 -- the phase is a binary32 value of at least 0 and below 8, the segment one of the eight, and the frequency and the gains pass their tests
 pub record Valid (s : State) : Type 0 where
@@ -29,19 +22,6 @@ pub record Valid (s : State) : Type 0 where
   pub below : k < 8
   pub frequency : within zero32 topStringStep (s .frequency) ≡ true
   pub gains : gainsIn (s .«saw_8_gain») (s .«saw_4_gain») (s .«saw_2_gain») (s .«saw_1_gain») ≡ true
-
--- what is left to find out is whether a step leaves its room
-pub record Fit (s : State) (xs : List Float) : Type 0 where
-  pub short : length xs ≤ 4096
-  pub valid : Valid s
-
-pub record Playable (s : State) (ps : List ParameterInterpolator) (xs : List Float) : Type 0 where
-  pub fit : Fit s xs
-  pub inside : firstOutside rooms (stepsOf (length xs) ps) ≡ Nowhere
-
--- what five interpolators have come to
-abbrev pub sawsAt : ParameterInterpolator → ParameterInterpolator → ParameterInterpolator → ParameterInterpolator → ParameterInterpolator → Saws
-sawsAt f g8 g4 g2 g1 = record { frequency = f .value; «saw_8_gain» = g8 .value; «saw_4_gain» = g4 .value; «saw_2_gain» = g2 .value; «saw_1_gain» = g1 .value }
 
 abbrev pub refused : Answer → State → Rendered
 refused answer s = record { answer = answer; state = s; counts = noCounts }

@@ -6,8 +6,8 @@ use lib.Bits.{bitAnd}
 use lib.Dec.{eqb}
 use lib.IntN.{ℤ, pos, negsuc}
 use lib.ListN.{getD}
-use lib.Ieee.{Float, binary32, ne, ofInt}
-use Rattle.floats.specs.F32.{_⊕_, _⊖_, _⊗_, _⊘_, f32, zero32, half32, one32, two32, four32, eight32}
+use lib.Ieee.{Float, ne}
+use Rattle.floats.specs.F32.{whole32, _⊕_, _⊖_, _⊗_, _⊘_, f32, zero32, half32, one32, two32, four32, eight32}
 use Rattle.polyblep.specs.Polyblep.{thisBlepSample, nextBlepSample}
 use Rattle.whole_part.specs.WholePart.{wholePart}
 use Rattle.block.specs.Counting.{oneIf}
@@ -16,10 +16,6 @@ use Rattle.states.specs.declared.string_synth.State.{State}
 use Rattle.string_synth.specs.declared.sample.Saws.{Saws}
 use Rattle.string_synth.specs.declared.sample.Reached.{Reached}
 use Rattle.string_synth.specs.declared.sample.Sampled.{Sampled}
-
--- `as f32` of a whole number; those of a segment are exact
-abbrev pub asFloat : ℕ → Float
-asFloat n = ofInt binary32 (pos n)
 
 -- whether a whole part is the segment, line 118. The source's segment is an i32: a whole part never is a negative one.
 abbrev pub isSegment : ℕ → ℤ → Bool
@@ -48,7 +44,7 @@ wrappedSegment whole = cond (eqb whole 8) (whole - 8) whole
 -- lines 133 to 136
 unfoldable pub blepOf : Reached → Float → Float → Reached
 blepOf e discontinuity frequency =
-    let fraction = e .phase ⊖ asFloat (e .segment) in
+    let fraction = e .phase ⊖ whole32 (e .segment) in
     let t = fraction ⊘ frequency in
     record {
       phase = e .phase;
@@ -101,9 +97,9 @@ reachedOf s saws =
 unfoldable pub nextSample : Reached → Saws → Float
 nextSample e saws =
     let of8 = e .«next_sample» ⊕ (e .phase ⊖ four32) ⊗ saws .«saw_8_gain» ⊗ f32 0x3e00_0000 in
-    let of4 = of8 ⊕ (e .phase ⊖ asFloat (bitAnd (e .segment) 4) ⊖ two32) ⊗ saws .«saw_4_gain» ⊗ f32 0x3e80_0000 in
-    let of2 = of4 ⊕ (e .phase ⊖ asFloat (bitAnd (e .segment) 6) ⊖ one32) ⊗ saws .«saw_2_gain» ⊗ half32 in
-    of2 ⊕ (e .phase ⊖ asFloat (bitAnd (e .segment) 7) ⊖ half32) ⊗ saws .«saw_1_gain»
+    let of4 = of8 ⊕ (e .phase ⊖ whole32 (bitAnd (e .segment) 4) ⊖ two32) ⊗ saws .«saw_4_gain» ⊗ f32 0x3e80_0000 in
+    let of2 = of4 ⊕ (e .phase ⊖ whole32 (bitAnd (e .segment) 6) ⊖ one32) ⊗ saws .«saw_2_gain» ⊗ half32 in
+    of2 ⊕ (e .phase ⊖ whole32 (bitAnd (e .segment) 7) ⊖ half32) ⊗ saws .«saw_1_gain»
 
 -- The end of a sample, lines 141 to 150: it is added to what the buffer held. The source stores the frequency and the gains as it drops
 -- their interpolators, and what it stores is the last step.

@@ -1,11 +1,11 @@
 // A mixture of saws and squares in the style of divide-down organs: the source's oscillator/string_synth_oscillator.rs.
 ghost use mathlib.Core.Path.{_≡_};
-ghost use mathlib.Core.List.{[], _∷_};
+ghost use Rattle.rooms.specs.Steps.{stepsOf, firstOutside};
 ghost use Rattle.block.specs.Calls.{run, playedOf};
+ghost use Rattle.block.specs.Fit.{Fit, Playable};
 ghost use Rattle.string_synth.specs.Sample.{sampleAt};
 ghost use Rattle.string_synth.specs.Block.{placeIn, gainsIn, stateIn, registrationIn, parametersIn, rooms, renderOf, left};
-ghost use Rattle.string_synth.specs.Private.{sawsAt, Fit, Playable, refused};
-use crate::sample::Saws;
+ghost use Rattle.string_synth.specs.Private.{Valid, refused};
 use block::Answer;
 use block::Counts;
 use parameter_interpolator::ParameterInterpolator;
@@ -13,6 +13,7 @@ use rooms::Found;
 use rooms::Room;
 
 mod sample;
+mod steps;
 mod targets;
 
 // The state, its default and its initial value, passed on from `states`.
@@ -55,12 +56,7 @@ pub fn render(
     }
     let n = out.len() as u32;
     let to = targets::targets(frequency, registration, gain);
-    let fm = ParameterInterpolator::new(state.frequency, to.frequency, n);
-    let saw_8 = ParameterInterpolator::new(state.saw_8_gain, to.saw_8_gain, n);
-    let saw_4 = ParameterInterpolator::new(state.saw_4_gain, to.saw_4_gain, n);
-    let saw_2 = ParameterInterpolator::new(state.saw_2_gain, to.saw_2_gain, n);
-    let saw_1 = ParameterInterpolator::new(state.saw_1_gain, to.saw_1_gain, n);
-    drift_or_play(state, fm, saw_8, saw_4, saw_2, saw_1, out)
+    drift_or_play(state, steps::start(state, to, n), out)
 }
 
 fn state_in(s: State) -> bool
@@ -114,21 +110,10 @@ fn refuse(answer: Answer, state: State) -> Rendered
     }
 }
 
-// Drift where a step leaves its room, else the samples.
-fn drift_or_play(
-    state: State,
-    fm: ParameterInterpolator,
-    saw_8: ParameterInterpolator,
-    saw_4: ParameterInterpolator,
-    saw_2: ParameterInterpolator,
-    saw_1: ParameterInterpolator,
-    out: &mut [f32],
-) -> Rendered
-    requires { ⌜ Fit state (now out) ⌝ }
-    ensures { λ r. ⌜ left r (now (out .exit)) ≡ run sampleAt rooms (fm ∷ «saw_8» ∷ «saw_4» ∷ «saw_2» ∷ «saw_1» ∷ []) state (now (out .entry)) ⌝ }
+// The first sample with a step outside its room.
+fn walk(interpolators: [ParameterInterpolator; 5], n: u32) -> Found
+    ensures { λ r. ⌜ r ≡ firstOutside rooms (stepsOf n interpolators) ⌝ }
 {
-    let n = out.len() as u32;
-    let moving = [fm, saw_8, saw_4, saw_2, saw_1];
     let kept = [
         Room::StringFrequency,
         Room::Sixteen,
@@ -136,41 +121,37 @@ fn drift_or_play(
         Room::Sixteen,
         Room::Sixteen,
     ];
-    match rooms::first_outside(moving, kept, n) {
+    rooms::first_outside(interpolators, kept, n)
+}
+
+// Drift where a step leaves its room, else the samples.
+fn drift_or_play(
+    state: State,
+    interpolators: [ParameterInterpolator; 5],
+    out: &mut [f32],
+) -> Rendered
+    requires { ⌜ Fit Valid state (now out) ⌝ }
+    ensures { λ r. ⌜ left r (now (out .exit)) ≡ run sampleAt rooms interpolators state (now (out .entry)) ⌝ }
+{
+    match walk(interpolators, out.len() as u32) {
         Found::Outside(i) => refuse(Answer::Drift(i), state),
-        Found::Nowhere => play(state, fm, saw_8, saw_4, saw_2, saw_1, out),
+        Found::Nowhere => play(state, interpolators, out),
     }
 }
 
 // Every sample of the buffer.
-fn play(
-    state: State,
-    fm: ParameterInterpolator,
-    saw_8: ParameterInterpolator,
-    saw_4: ParameterInterpolator,
-    saw_2: ParameterInterpolator,
-    saw_1: ParameterInterpolator,
-    out: &mut [f32],
-) -> Rendered
-    requires { ⌜ Playable state (fm ∷ «saw_8» ∷ «saw_4» ∷ «saw_2» ∷ «saw_1» ∷ []) (now out) ⌝ }
-    ensures { λ r. ⌜ left r (now (out .exit)) ≡ playedOf sampleAt state (fm ∷ «saw_8» ∷ «saw_4» ∷ «saw_2» ∷ «saw_1» ∷ []) (now (out .entry)) ⌝ }
+fn play(state: State, interpolators: [ParameterInterpolator; 5], out: &mut [f32]) -> Rendered
+    requires { ⌜ Playable Valid rooms state interpolators (now out) ⌝ }
+    ensures { λ r. ⌜ left r (now (out .exit)) ≡ playedOf sampleAt state interpolators (now (out .entry)) ⌝ }
 {
     let mut s = state;
-    let mut frequency = fm;
-    let mut gain_8 = saw_8;
-    let mut gain_4 = saw_4;
-    let mut gain_2 = saw_2;
-    let mut gain_1 = saw_1;
+    let mut moving = interpolators;
     let mut counts = block::none();
     let mut i = 0;
     while i < out.len() {
-        frequency = frequency.next();
-        gain_8 = gain_8.next();
-        gain_4 = gain_4.next();
-        gain_2 = gain_2.next();
-        gain_1 = gain_1.next();
-        let saws = saws_at(frequency, gain_8, gain_4, gain_2, gain_1);
-        let t = sample::sample(s, saws, out[i]);
+        let next = steps::advance(moving);
+        moving = next;
+        let t = sample::sample(s, steps::values(next), out[i]);
         out[i] = t.sample;
         s = t.state;
         counts = block::sum(counts, t.counts);
@@ -180,24 +161,5 @@ fn play(
         answer: Answer::Done,
         state: s,
         counts,
-    }
-}
-
-// What the five interpolators have come to.
-fn saws_at(
-    frequency: ParameterInterpolator,
-    gain_8: ParameterInterpolator,
-    gain_4: ParameterInterpolator,
-    gain_2: ParameterInterpolator,
-    gain_1: ParameterInterpolator,
-) -> Saws
-    ensures { λ r. ⌜ r ≡ sawsAt frequency «gain_8» «gain_4» «gain_2» «gain_1» ⌝ }
-{
-    Saws {
-        frequency: frequency.value,
-        saw_8_gain: gain_8.value,
-        saw_4_gain: gain_4.value,
-        saw_2_gain: gain_2.value,
-        saw_1_gain: gain_1.value,
     }
 }

@@ -1,8 +1,8 @@
 -- A whole call of the super square, in plain values: each way out of `render` is the definition's. Assumes nothing.
-use mathlib.Core.Path.{_≡_, refl, sym, ap, _∙_}
+use mathlib.Core.Path.{_≡_, _∙_}
 use mathlib.Core.Bool.{true, false}
-use mathlib.Core.List.{List, [], _∷_, _++_}
-use Prim.Native.Nat.{ℕ, _≤_, _<_}
+use mathlib.Core.List.{List, [], _∷_}
+use Prim.Native.Nat.{_≤_, _<_}
 use borrow.Author.Tests.{lt-ltb, le-ltb}
 use lib.Dec.{T}
 use lib.ListN.{length}
@@ -10,37 +10,16 @@ use lib.Ieee.{Float, binary32, fits}
 use Rattle.floats.specs.F32.{_⊗_}
 use Rattle.parameter_interpolator.specs.declared.ParameterInterpolator.{ParameterInterpolator}
 use Rattle.parameter_interpolator.specs.Interpolator.{newInterpolator}
-use Rattle.block.specs.declared.Answer.the-variants.{LongBlock, BadState, BadParam, Drift}
-use Rattle.rooms.specs.declared.Found.{Found}
-use Rattle.rooms.specs.declared.Found.the-variants.{Outside, Nowhere}
+use Rattle.block.specs.declared.Answer.the-variants.{LongBlock, BadState, BadParam}
 use Rattle.ranges.specs.Targets.{clipped}
-use Rattle.rooms.specs.Steps.{stepsOf, firstOutside}
-use Rattle.block.specs.Calls.{run, playedOf}
+use Rattle.block.specs.Calls.{run}
 use Rattle.ranges.proofs.Bools.{and-both}
 use Rattle.rooms.proofs.RangeLaws.{phase-under, under-phase}
-use Rattle.rooms.proofs.Padding.{unused, padded}
-use Rattle.block.proofs.Runs.{run-drift, run-done}
 use Rattle.states.specs.declared.super_square.State.{State}
 use Rattle.super_square.specs.declared.Rendered.{Rendered}
 use Rattle.super_square.specs.Sample.{sampleAt}
 use Rattle.super_square.specs.Block.{stateIn, parametersIn, factorOf, rooms, renderOf, left}
-use Rattle.super_square.specs.Private.{Valid, Fit, Playable, refused}
-
--- the walk's answer, over the five places that it takes
-module _ (s : State) (m f still : ParameterInterpolator) (xs : List Float) (found : Found)
-    (walked : found ≡ firstOutside (rooms ++ unused 3) (stepsOf (length xs) ((m ∷ f ∷ []) ++ still ∷ still ∷ still ∷ []))) where
-  searched : found ≡ firstOutside rooms (stepsOf (length xs) (m ∷ f ∷ []))
-  searched = walked ∙ padded (length xs) rooms 3 (m ∷ f ∷ []) (still ∷ still ∷ still ∷ []) refl
-
-  pub drifted : (i : ℕ) (r : Rendered) → found ≡ Outside i → r ≡ refused (Drift i) s → left r xs ≡ run sampleAt rooms (m ∷ f ∷ []) s xs
-  drifted i r h e = ap (λ (q : Rendered). left q xs) e ∙ sym (run-drift sampleAt rooms (m ∷ f ∷ []) s xs i (sym searched ∙ h))
-
-  module _ (h : found ≡ Nowhere) where
-    pub playable : Fit s xs → Playable s (m ∷ f ∷ []) xs
-    playable k = record { fit = k; inside = sym searched ∙ h }
-
-    pub played : (r : Rendered) (after : List Float) → left r after ≡ playedOf sampleAt s (m ∷ f ∷ []) xs → left r after ≡ run sampleAt rooms (m ∷ f ∷ []) s xs
-    played r after e = e ∙ sym (run-done sampleAt rooms (m ∷ f ∷ []) s xs (sym searched ∙ h))
+use Rattle.super_square.specs.Private.{Valid, refused}
 
 -- a state that passed its test is valid, and the other way round
 pub valid-of : (s : State) → T (fits binary32 (s .«master_phase»)) → T (fits binary32 (s .«slave_phase»)) → stateIn s ≡ true → Valid s

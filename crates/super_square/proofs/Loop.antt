@@ -12,19 +12,20 @@ use Rattle.block.specs.Counting.{noCounts, plus, wrapped}
 use Rattle.rooms.specs.Steps.{moved, values}
 use Rattle.block.specs.Play.{Sample, Heard}
 use Rattle.block.specs.Calls.{done, playedOf}
+use Rattle.block.specs.Fit.{Playable}
 use Rattle.block.proofs.Plays.{Playing, playing-start, playing-inside, playing-counts, playing-more, playing-end}
 use Rattle.states.specs.declared.super_square.State.{State}
 use Rattle.super_square.specs.declared.sample.Sampled.{Sampled}
 use Rattle.super_square.specs.Sample.{sampleOf, sampleAt}
 use Rattle.super_square.specs.Block.{rooms, left}
-use Rattle.super_square.specs.Private.{Valid, Ready, Playable}
+use Rattle.super_square.specs.Private.{Valid, Ready}
 use Rattle.super_square.proofs.Keeping.{keeps, ready-of}
 
 abbrev pub Turning : State → ParameterInterpolator → ParameterInterpolator → List Float → State → ParameterInterpolator → ParameterInterpolator → Counts → List Float → ℕ → Type 0
 Turning s₀ m₀ f₀ out₀ s m f c out i = Playing sampleAt rooms Valid s₀ (m₀ ∷ f₀ ∷ []) out₀ s (m ∷ f ∷ []) c out i
 
 module _ (s₀ : State) (m₀ f₀ : ParameterInterpolator) (out₀ : List Float) where
-  pub turning-start : (c : Counts) → c ≡ noCounts → Playable s₀ (m₀ ∷ f₀ ∷ []) out₀ → Turning s₀ m₀ f₀ out₀ s₀ m₀ f₀ c out₀ 0
+  pub turning-start : (c : Counts) → c ≡ noCounts → Playable Valid rooms s₀ (m₀ ∷ f₀ ∷ []) out₀ → Turning s₀ m₀ f₀ out₀ s₀ m₀ f₀ c out₀ 0
   turning-start c e h = rw e (playing-start sampleAt rooms Valid keeps s₀ (m₀ ∷ f₀ ∷ []) out₀ (h .fit .short) refl (h .fit .valid) (h .inside))
 
   module _ (s : State) (m f : ParameterInterpolator) (c : Counts) (out : List Float) (i : ℕ) (p : Turning s₀ m₀ f₀ out₀ s m f c out i) where

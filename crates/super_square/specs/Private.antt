@@ -2,21 +2,15 @@
 -- A tick is 2^-24: 4456448 ticks are 17/64, and 21233664 are 81/64. Assumes nothing.
 use mathlib.Core.Path.{_≡_}
 use mathlib.Core.Bool.{true}
-use mathlib.Core.List.{List}
-use Prim.Native.Nat.{_*_, _≤_}
-use lib.ListN.{length}
+use Prim.Native.Nat.{_*_}
 use lib.Ieee.{Float}
 use Rattle.floats.proofs.Ticks.{tick, cycle}
 use Rattle.floats.proofs.Ranges.{Under, Positive}
-use Rattle.parameter_interpolator.specs.declared.ParameterInterpolator.{ParameterInterpolator}
 use Rattle.block.specs.declared.Answer.{Answer}
-use Rattle.rooms.specs.declared.Found.the-variants.{Nowhere}
 use Rattle.block.specs.Counting.{noCounts}
 use Rattle.ranges.specs.Ranges.{frequencyIn}
-use Rattle.rooms.specs.Steps.{stepsOf, firstOutside}
 use Rattle.states.specs.declared.super_square.State.{State}
 use Rattle.super_square.specs.declared.Rendered.{Rendered}
-use Rattle.super_square.specs.Block.{rooms}
 
 -- both phases are binary32 values of at least 0 and below 1, and the frequencies pass their test
 pub record Valid (s : State) : Type 0 where
@@ -30,15 +24,6 @@ pub record Ready (s : State) (masterFrequency slaveFrequency : Float) : Type 0 w
   pub valid : Valid s
   pub master : Positive masterFrequency (4456448 * tick)
   pub slave : Positive slaveFrequency (4456448 * tick)
-
--- what is left to find out is whether a step leaves its room
-pub record Fit (s : State) (xs : List Float) : Type 0 where
-  pub short : length xs ≤ 4096
-  pub valid : Valid s
-
-pub record Playable (s : State) (ps : List ParameterInterpolator) (xs : List Float) : Type 0 where
-  pub fit : Fit s xs
-  pub inside : firstOutside rooms (stepsOf (length xs) ps) ≡ Nowhere
 
 abbrev pub refused : Answer → State → Rendered
 refused answer s = record { answer = answer; state = s; counts = noCounts }

@@ -1,4 +1,4 @@
--- One sample of the super square: super_square_oscillator.rs, lines 60 to 129, in its order. Assumes nothing.
+-- One sample of the super square: super_square_oscillator.rs, lines 60 to 131, in its order. Assumes nothing.
 use mathlib.Core.Bool.{Bool, true, false, cond}
 use mathlib.Core.List.{List}
 use Prim.Native.Nat.{ℕ, _+_}

@@ -1,10 +1,12 @@
 // Two hard-synced square waves with one shape parameter: the source's oscillator/super_square_oscillator.rs.
 ghost use mathlib.Core.Path.{_≡_};
 ghost use mathlib.Core.List.{[], _∷_};
+ghost use Rattle.rooms.specs.Steps.{stepsOf, firstOutside};
 ghost use Rattle.block.specs.Calls.{run, playedOf};
+ghost use Rattle.block.specs.Fit.{Fit, Playable};
 ghost use Rattle.super_square.specs.Sample.{sampleAt};
 ghost use Rattle.super_square.specs.Block.{stateIn, parametersIn, factorOf, rooms, renderOf, left};
-ghost use Rattle.super_square.specs.Private.{Fit, Playable, refused};
+ghost use Rattle.super_square.specs.Private.{Valid, refused};
 use block::Answer;
 use block::Counts;
 use parameter_interpolator::ParameterInterpolator;
@@ -82,17 +84,10 @@ fn factor(shape: f32) -> f32
     }
 }
 
-// Drift where a step leaves its room, else the samples.
-fn drift_or_play(
-    state: State,
-    master_fm: ParameterInterpolator,
-    fm: ParameterInterpolator,
-    out: &mut [f32],
-) -> Rendered
-    requires { ⌜ Fit state (now out) ⌝ }
-    ensures { λ r. ⌜ left r (now (out .exit)) ≡ run sampleAt rooms («master_fm» ∷ fm ∷ []) state (now (out .entry)) ⌝ }
+// The first sample with a step outside its room.
+fn walk(master_fm: ParameterInterpolator, fm: ParameterInterpolator, n: u32) -> Found
+    ensures { λ r. ⌜ r ≡ firstOutside rooms (stepsOf n («master_fm» ∷ fm ∷ [])) ⌝ }
 {
-    let n = out.len() as u32;
     let still = ParameterInterpolator {
         value: 0.0,
         increment: 0.0,
@@ -105,7 +100,20 @@ fn drift_or_play(
         Room::Unused,
         Room::Unused,
     ];
-    match rooms::first_outside(moving, kept, n) {
+    rooms::first_outside(moving, kept, n)
+}
+
+// Drift where a step leaves its room, else the samples.
+fn drift_or_play(
+    state: State,
+    master_fm: ParameterInterpolator,
+    fm: ParameterInterpolator,
+    out: &mut [f32],
+) -> Rendered
+    requires { ⌜ Fit Valid state (now out) ⌝ }
+    ensures { λ r. ⌜ left r (now (out .exit)) ≡ run sampleAt rooms («master_fm» ∷ fm ∷ []) state (now (out .entry)) ⌝ }
+{
+    match walk(master_fm, fm, out.len() as u32) {
         Found::Outside(i) => refuse(Answer::Drift(i), state),
         Found::Nowhere => play(state, master_fm, fm, out),
     }
@@ -118,7 +126,7 @@ fn play(
     fm: ParameterInterpolator,
     out: &mut [f32],
 ) -> Rendered
-    requires { ⌜ Playable state («master_fm» ∷ fm ∷ []) (now out) ⌝ }
+    requires { ⌜ Playable Valid rooms state («master_fm» ∷ fm ∷ []) (now out) ⌝ }
     ensures { λ r. ⌜ left r (now (out .exit)) ≡ playedOf sampleAt state («master_fm» ∷ fm ∷ []) (now (out .entry)) ⌝ }
 {
     let mut s = state;

@@ -1,8 +1,8 @@
 -- A whole call of the variable saw, in plain values: each way out of `render` is the definition's. Assumes nothing.
-use mathlib.Core.Path.{_≡_, refl, sym, ap, _∙_}
+use mathlib.Core.Path.{_≡_, _∙_}
 use mathlib.Core.Bool.{Bool, true, false}
-use mathlib.Core.List.{List, [], _∷_, _++_}
-use Prim.Native.Nat.{ℕ, _≤_, _<_}
+use mathlib.Core.List.{List, [], _∷_}
+use Prim.Native.Nat.{_≤_, _<_}
 use native.Mathlib.Omega.{arith}
 use borrow.Author.Tests.{lt-ltb, le-ltb}
 use lib.Dec.{T}
@@ -12,37 +12,16 @@ use Rattle.floats.proofs.Ticks.{topSum-at}
 use Rattle.floats.proofs.Ranges.{Under, at-least-0, passes-le, upto-of}
 use Rattle.parameter_interpolator.specs.declared.ParameterInterpolator.{ParameterInterpolator}
 use Rattle.parameter_interpolator.specs.Interpolator.{newInterpolator}
-use Rattle.block.specs.declared.Answer.the-variants.{LongBlock, BadState, BadParam, Drift}
-use Rattle.rooms.specs.declared.Found.{Found}
-use Rattle.rooms.specs.declared.Found.the-variants.{Outside, Nowhere}
+use Rattle.block.specs.declared.Answer.the-variants.{LongBlock, BadState, BadParam}
 use Rattle.ranges.specs.Targets.{clipped, clampedWidth}
-use Rattle.rooms.specs.Steps.{stepsOf, firstOutside}
-use Rattle.block.specs.Calls.{run, playedOf}
+use Rattle.block.specs.Calls.{run}
 use Rattle.ranges.proofs.Bools.{and-both}
 use Rattle.rooms.proofs.RangeLaws.{phase-under, under-phase}
-use Rattle.rooms.proofs.Padding.{unused, padded}
-use Rattle.block.proofs.Runs.{run-drift, run-done}
 use Rattle.states.specs.declared.variable_saw.State.{State}
 use Rattle.variable_saw.specs.declared.Rendered.{Rendered}
 use Rattle.variable_saw.specs.Sample.{sampleAt}
 use Rattle.variable_saw.specs.Block.{sawPhaseIn, stateIn, parametersIn, rooms, renderOf, left}
-use Rattle.variable_saw.specs.Private.{reach, Valid, Fit, Playable, refused}
-
--- the walk's answer, over the five places that it takes
-module _ (s : State) (f p w still : ParameterInterpolator) (xs : List Float) (found : Found)
-    (walked : found ≡ firstOutside (rooms ++ unused 2) (stepsOf (length xs) ((f ∷ p ∷ w ∷ []) ++ still ∷ still ∷ []))) where
-  searched : found ≡ firstOutside rooms (stepsOf (length xs) (f ∷ p ∷ w ∷ []))
-  searched = walked ∙ padded (length xs) rooms 2 (f ∷ p ∷ w ∷ []) (still ∷ still ∷ []) refl
-
-  pub drifted : (i : ℕ) (r : Rendered) → found ≡ Outside i → r ≡ refused (Drift i) s → left r xs ≡ run sampleAt rooms (f ∷ p ∷ w ∷ []) s xs
-  drifted i r h e = ap (λ (q : Rendered). left q xs) e ∙ sym (run-drift sampleAt rooms (f ∷ p ∷ w ∷ []) s xs i (sym searched ∙ h))
-
-  module _ (h : found ≡ Nowhere) where
-    pub playable : Fit s xs → Playable s (f ∷ p ∷ w ∷ []) xs
-    playable k = record { fit = k; inside = sym searched ∙ h }
-
-    pub played : (r : Rendered) (after : List Float) → left r after ≡ playedOf sampleAt s (f ∷ p ∷ w ∷ []) xs → left r after ≡ run sampleAt rooms (f ∷ p ∷ w ∷ []) s xs
-    played r after e = e ∙ sym (run-done sampleAt rooms (f ∷ p ∷ w ∷ []) s xs (sym searched ∙ h))
+use Rattle.variable_saw.specs.Private.{reach, Valid, refused}
 
 -- a phase that passed its test lies within its reach, and the other way round
 phase-of : (high : Bool) (phase : Float) → T (fits binary32 phase) → sawPhaseIn high phase ≡ true → Under phase (reach high)

@@ -12,12 +12,13 @@ use Rattle.block.specs.Counting.{noCounts, plus, wrapped}
 use Rattle.rooms.specs.Steps.{moved, values}
 use Rattle.block.specs.Play.{Sample, Heard}
 use Rattle.block.specs.Calls.{done, playedOf}
+use Rattle.block.specs.Fit.{Playable}
 use Rattle.block.proofs.Plays.{Playing, playing-start, playing-counts, playing-more, playing-end}
 use Rattle.states.specs.declared.variable_saw.State.{State}
 use Rattle.variable_saw.specs.declared.sample.Sampled.{Sampled}
 use Rattle.variable_saw.specs.Sample.{sampleOf, sampleAt}
 use Rattle.variable_saw.specs.Block.{rooms, left}
-use Rattle.variable_saw.specs.Private.{Valid, Playable}
+use Rattle.variable_saw.specs.Private.{Valid}
 use Rattle.variable_saw.proofs.Keeping.{keeps}
 
 abbrev pub Turning : State → ParameterInterpolator → ParameterInterpolator → ParameterInterpolator → List Float
@@ -25,7 +26,7 @@ abbrev pub Turning : State → ParameterInterpolator → ParameterInterpolator �
 Turning s₀ f₀ p₀ w₀ out₀ s f p w c out i = Playing sampleAt rooms Valid s₀ (f₀ ∷ p₀ ∷ w₀ ∷ []) out₀ s (f ∷ p ∷ w ∷ []) c out i
 
 module _ (s₀ : State) (f₀ p₀ w₀ : ParameterInterpolator) (out₀ : List Float) where
-  pub turning-start : (c : Counts) → c ≡ noCounts → Playable s₀ (f₀ ∷ p₀ ∷ w₀ ∷ []) out₀ → Turning s₀ f₀ p₀ w₀ out₀ s₀ f₀ p₀ w₀ c out₀ 0
+  pub turning-start : (c : Counts) → c ≡ noCounts → Playable Valid rooms s₀ (f₀ ∷ p₀ ∷ w₀ ∷ []) out₀ → Turning s₀ f₀ p₀ w₀ out₀ s₀ f₀ p₀ w₀ c out₀ 0
   turning-start c e h = rw e (playing-start sampleAt rooms Valid keeps s₀ (f₀ ∷ p₀ ∷ w₀ ∷ []) out₀ (h .fit .short) refl (h .fit .valid) (h .inside))
 
   module _ (s : State) (f p w : ParameterInterpolator) (c : Counts) (out : List Float) (i : ℕ) (q : Turning s₀ f₀ p₀ w₀ out₀ s f p w c out i) where

@@ -5,7 +5,8 @@ use lib.Ieee.{Float}
 use Rattle.floats.specs.F32.{_⊕_, f32, zero32, half32}
 use Rattle.states.specs.declared.variable_saw.State.{State}
 use Rattle.variable_saw.specs.declared.sample.Sampled.{Sampled}
-use Rattle.variable_saw.specs.Sample.{riseTime, sampleOf}
+use Rattle.edges.specs.Triangle.{riseTime}
+use Rattle.variable_saw.specs.Sample.{sampleOf}
 
 -- a low saw at `phase`, with a width that stays the same and the waveshape 0
 abbrev pub steadySaw : Float → Float → Float → State

@@ -2,21 +2,14 @@
 -- A tick is 2^-24: 4456448 ticks are 17/64, and 21233664 are 81/64. Assumes nothing.
 use mathlib.Core.Path.{_≡_}
 use mathlib.Core.Bool.{Bool, true, false}
-use mathlib.Core.List.{List}
-use Prim.Native.Nat.{ℕ, suc, _*_, _≤_}
-use lib.ListN.{length}
-use lib.Ieee.{Float}
+use Prim.Native.Nat.{ℕ, suc, _*_}
 use Rattle.floats.proofs.Ticks.{tick, cycle}
 use Rattle.floats.proofs.Ranges.{Under}
-use Rattle.parameter_interpolator.specs.declared.ParameterInterpolator.{ParameterInterpolator}
 use Rattle.block.specs.declared.Answer.{Answer}
-use Rattle.rooms.specs.declared.Found.the-variants.{Nowhere}
 use Rattle.block.specs.Counting.{noCounts}
 use Rattle.ranges.specs.Ranges.{frequencyIn, unitIn, waveshapeIn}
-use Rattle.rooms.specs.Steps.{stepsOf, firstOutside}
 use Rattle.states.specs.declared.variable_saw.State.{State}
 use Rattle.variable_saw.specs.declared.Rendered.{Rendered}
-use Rattle.variable_saw.specs.Block.{rooms}
 
 -- what the phase stays below: 1 when `high` is false; when it is true, the next number of units after 81/64
 abbrev pub reach : Bool → ℕ
@@ -30,15 +23,6 @@ pub record Valid (s : State) : Type 0 where
   pub frequency : frequencyIn (s .frequency) ≡ true
   pub pw : unitIn (s .pw) ≡ true
   pub waveshape : waveshapeIn (s .waveshape) ≡ true
-
--- what is left to find out is whether a step leaves its room
-pub record Fit (s : State) (xs : List Float) : Type 0 where
-  pub short : length xs ≤ 4096
-  pub valid : Valid s
-
-pub record Playable (s : State) (ps : List ParameterInterpolator) (xs : List Float) : Type 0 where
-  pub fit : Fit s xs
-  pub inside : firstOutside rooms (stepsOf (length xs) ps) ≡ Nowhere
 
 abbrev pub refused : Answer → State → Rendered
 refused answer s = record { answer = answer; state = s; counts = noCounts }

@@ -7,6 +7,7 @@ use lib.Ieee.{Float, lt, le}
 use Rattle.floats.specs.F32.{_⊕_, _⊖_, _⊗_, _⊘_, f32, zero32, one32, two32}
 use Rattle.polyblep.specs.Polyblep.{thisBlepSample, nextBlepSample, thisIntegratedBlepSample, nextIntegratedBlepSample}
 use Rattle.edges.specs.declared.Edge.{Edge}
+use Rattle.edges.specs.Triangle.{triangle, triangleStep, riseTime}
 use Rattle.block.specs.Counting.{oneIf}
 use Rattle.block.specs.Play.{Sample}
 use Rattle.states.specs.declared.variable_saw.State.{State}
@@ -27,21 +28,9 @@ waveOf pw waveshape = record {
   «notch_amount» = one32 ⊖ waveshape;
 }
 
--- lines 77 and 87
-abbrev pub triangleStep : Wave → Float → Float
-triangleStep w frequency = (w .«slope_up» ⊕ w .«slope_down») ⊗ frequency ⊗ w .«triangle_amount»
-
--- how many samples ago the phase came to the width, line 79. The width moves too: where it has moved up by just the frequency, the divisor is 0
--- and this is an infinity or a NaN.
-abbrev pub riseTime : Float → Float → Float → Float → Float
-riseTime phase pw previousPw frequency = (phase ⊖ pw) ⊘ (previousPw ⊖ pw ⊕ frequency)
-
 -- compute_naive_sample, lines 123 to 134
 abbrev pub notchSaw : Float → Float → Float
 notchSaw phase pw = cond (lt phase pw) phase (one32 ⊕ notchDepth)
-
-abbrev pub triangle : Float → Float → Float → Float → Float
-triangle phase pw slopeUp slopeDown = cond (lt phase pw) (phase ⊗ slopeUp) (one32 ⊖ (phase ⊖ pw) ⊗ slopeDown)
 
 unfoldable pub naive : Float → Wave → Float
 naive phase w =
@@ -51,7 +40,7 @@ naive phase w =
 -- up through the width, lines 77 to 84. The phase may have passed 1 too: it then stays there until the next sample.
 unfoldable pub riseOf : Wave → Float → Float → Edge → Edge
 riseOf w frequency previousPw e =
-    let step = triangleStep w frequency in
+    let step = triangleStep (w .«slope_up») (w .«slope_down») frequency (w .«triangle_amount») in
     let notch = (notchDepth ⊕ one32 ⊖ w .pw) ⊗ w .«notch_amount» in
     let t = riseTime (e .phase) (w .pw) previousPw frequency in
     record {
@@ -67,7 +56,7 @@ riseOf w frequency previousPw e =
 unfoldable pub wrapOf : Wave → Float → Edge → Edge
 wrapOf w frequency e =
     let phase' = e .phase ⊖ one32 in
-    let step = triangleStep w frequency in
+    let step = triangleStep (w .«slope_up») (w .«slope_down») frequency (w .«triangle_amount») in
     let notch = (notchDepth ⊕ one32) ⊗ w .«notch_amount» in
     let t = phase' ⊘ frequency in
     record {

@@ -1,10 +1,12 @@
 // A saw with variable slope or notch: the source's oscillator/variable_saw_oscillator.rs.
 ghost use mathlib.Core.Path.{_≡_};
 ghost use mathlib.Core.List.{[], _∷_};
+ghost use Rattle.rooms.specs.Steps.{stepsOf, firstOutside};
 ghost use Rattle.block.specs.Calls.{run, playedOf};
+ghost use Rattle.block.specs.Fit.{Fit, Playable};
 ghost use Rattle.variable_saw.specs.Sample.{sampleAt};
 ghost use Rattle.variable_saw.specs.Block.{sawPhaseIn, stateIn, parametersIn, rooms, renderOf, left};
-ghost use Rattle.variable_saw.specs.Private.{Fit, Playable, refused};
+ghost use Rattle.variable_saw.specs.Private.{Valid, refused};
 use block::Answer;
 use block::Counts;
 use parameter_interpolator::ParameterInterpolator;
@@ -84,18 +86,15 @@ fn refuse(answer: Answer, state: State) -> Rendered
     }
 }
 
-// Drift where a step leaves its room, else the samples.
-fn drift_or_play(
-    state: State,
+// The first sample with a step outside its room.
+fn walk(
     fm: ParameterInterpolator,
     pwm: ParameterInterpolator,
     waveshape_modulation: ParameterInterpolator,
-    out: &mut [f32],
-) -> Rendered
-    requires { ⌜ Fit state (now out) ⌝ }
-    ensures { λ r. ⌜ left r (now (out .exit)) ≡ run sampleAt rooms (fm ∷ pwm ∷ «waveshape_modulation» ∷ []) state (now (out .entry)) ⌝ }
+    n: u32,
+) -> Found
+    ensures { λ r. ⌜ r ≡ firstOutside rooms (stepsOf n (fm ∷ pwm ∷ «waveshape_modulation» ∷ [])) ⌝ }
 {
-    let n = out.len() as u32;
     let still = ParameterInterpolator {
         value: 0.0,
         increment: 0.0,
@@ -108,7 +107,21 @@ fn drift_or_play(
         Room::Unused,
         Room::Unused,
     ];
-    match rooms::first_outside(moving, kept, n) {
+    rooms::first_outside(moving, kept, n)
+}
+
+// Drift where a step leaves its room, else the samples.
+fn drift_or_play(
+    state: State,
+    fm: ParameterInterpolator,
+    pwm: ParameterInterpolator,
+    waveshape_modulation: ParameterInterpolator,
+    out: &mut [f32],
+) -> Rendered
+    requires { ⌜ Fit Valid state (now out) ⌝ }
+    ensures { λ r. ⌜ left r (now (out .exit)) ≡ run sampleAt rooms (fm ∷ pwm ∷ «waveshape_modulation» ∷ []) state (now (out .entry)) ⌝ }
+{
+    match walk(fm, pwm, waveshape_modulation, out.len() as u32) {
         Found::Outside(i) => refuse(Answer::Drift(i), state),
         Found::Nowhere => play(state, fm, pwm, waveshape_modulation, out),
     }
@@ -122,7 +135,7 @@ fn play(
     waveshape_modulation: ParameterInterpolator,
     out: &mut [f32],
 ) -> Rendered
-    requires { ⌜ Playable state (fm ∷ pwm ∷ «waveshape_modulation» ∷ []) (now out) ⌝ }
+    requires { ⌜ Playable Valid rooms state (fm ∷ pwm ∷ «waveshape_modulation» ∷ []) (now out) ⌝ }
     ensures { λ r. ⌜ left r (now (out .exit)) ≡ playedOf sampleAt state (fm ∷ pwm ∷ «waveshape_modulation» ∷ []) (now (out .entry)) ⌝ }
 {
     let mut s = state;

@@ -1,9 +1,10 @@
 // One sample of the variable saw, in the source's order.
 ghost use mathlib.Core.Path.{_≡_};
-ghost use Rattle.variable_saw.specs.Sample.{waveOf, triangleStep, riseTime, notchSaw, triangle as triangleOf, naive, riseOf, wrapOf, edgeOf, finish as finished, sampleOf};
+ghost use Rattle.variable_saw.specs.Sample.{waveOf, notchSaw, naive, riseOf, wrapOf, edgeOf, finish as finished, sampleOf};
 use crate::State;
 use block::Counts;
 use edges::Edge;
+use edges::triangle;
 
 const VARIABLE_SAW_NOTCH_DEPTH: f32 = 0.2;
 
@@ -36,19 +37,6 @@ impl Wave {
     }
 }
 
-fn triangle_step(w: Wave, frequency: f32) -> f32
-    ensures { λ r. ⌜ r ≡ triangleStep w frequency ⌝ }
-{
-    (w.slope_up + w.slope_down) * frequency * w.triangle_amount
-}
-
-// How many samples ago the phase came to the width, which moves too.
-fn rise_time(phase: f32, pw: f32, previous_pw: f32, frequency: f32) -> f32
-    ensures { λ r. ⌜ r ≡ riseTime phase pw «previous_pw» frequency ⌝ }
-{
-    (phase - pw) / (previous_pw - pw + frequency)
-}
-
 fn notch_saw(phase: f32, pw: f32) -> f32
     ensures { λ r. ⌜ r ≡ notchSaw phase pw ⌝ }
 {
@@ -59,30 +47,20 @@ fn notch_saw(phase: f32, pw: f32) -> f32
     }
 }
 
-fn triangle(phase: f32, pw: f32, slope_up: f32, slope_down: f32) -> f32
-    ensures { λ r. ⌜ r ≡ triangleOf phase pw «slope_up» «slope_down» ⌝ }
-{
-    if phase < pw {
-        phase * slope_up
-    } else {
-        1.0 - (phase - pw) * slope_down
-    }
-}
-
 fn compute_naive_sample(phase: f32, w: Wave) -> f32
     ensures { λ r. ⌜ r ≡ naive phase w ⌝ }
 {
     notch_saw(phase, w.pw) * w.notch_amount
-        + triangle(phase, w.pw, w.slope_up, w.slope_down) * w.triangle_amount
+        + triangle::triangle(phase, w.pw, w.slope_up, w.slope_down) * w.triangle_amount
 }
 
 // Up through the width. The phase may have passed 1 too: it then stays there until the next sample.
 fn rise(e: Edge, w: Wave, frequency: f32, previous_pw: f32) -> Edge
     ensures { λ r. ⌜ r ≡ riseOf w frequency «previous_pw» e ⌝ }
 {
-    let step = triangle_step(w, frequency);
+    let step = triangle::triangle_step(w.slope_up, w.slope_down, frequency, w.triangle_amount);
     let notch = (VARIABLE_SAW_NOTCH_DEPTH + 1.0 - w.pw) * w.notch_amount;
-    let t = rise_time(e.phase, w.pw, previous_pw, frequency);
+    let t = triangle::rise_time(e.phase, w.pw, previous_pw, frequency);
     Edge {
         phase: e.phase,
         high: true,
@@ -100,7 +78,7 @@ fn wrap(e: Edge, w: Wave, frequency: f32) -> Edge
     ensures { λ r. ⌜ r ≡ wrapOf w frequency e ⌝ }
 {
     let phase = e.phase - 1.0;
-    let step = triangle_step(w, frequency);
+    let step = triangle::triangle_step(w.slope_up, w.slope_down, frequency, w.triangle_amount);
     let notch = (VARIABLE_SAW_NOTCH_DEPTH + 1.0) * w.notch_amount;
     let t = phase / frequency;
     Edge {

@@ -14,6 +14,7 @@ use Rattle.block.specs.Counting.{noCounts, plus, wrapped}
 use Rattle.rooms.specs.Steps.{moved, values}
 use Rattle.block.specs.Play.{Sample, Heard}
 use Rattle.block.specs.Calls.{done, playedOf}
+use Rattle.block.specs.Fit.{Playable}
 use Rattle.ranges.proofs.Bools.{cond-both}
 use Rattle.block.proofs.Plays.{Playing, playing-start, playing-inside, playing-counts, playing-more, playing-end}
 use Rattle.states.specs.declared.variable_shape.State.{State}
@@ -22,7 +23,7 @@ use Rattle.variable_shape.specs.declared.steps.Steps.{Steps}
 use Rattle.variable_shape.specs.declared.sample.Sampled.{Sampled}
 use Rattle.variable_shape.specs.Sample.{finish, resetSample, plainSample, masterStep, sampleOf, stepsAt, sampleAt}
 use Rattle.variable_shape.specs.Block.{stepping, rooms, left}
-use Rattle.variable_shape.specs.Private.{Valid, Ready, Playable, advanced, valuesOf}
+use Rattle.variable_shape.specs.Private.{Valid, Ready, Started, advanced, valuesOf}
 use Rattle.variable_shape.proofs.Keeping.{keeps, ready-of}
 
 -- each interpolator that steps has its room
@@ -54,10 +55,10 @@ module _ (sync phaseOutput : Bool) (s₀ : State) (p₀ : Interpolators) (out₀
     pub playing : Playing (sampleAt sync phaseOutput) (rooms phaseOutput) Valid s₀ (stepping phaseOutput p₀) out₀ s (stepping phaseOutput p) c out i
     pub kept : p .«phase_modulation» .value ≡ s .«phase_modulation»
 
-  pub turning-start : (c : Counts) → c ≡ noCounts → Playable phaseOutput s₀ p₀ out₀ → Turning s₀ p₀ c out₀ 0
+  pub turning-start : (c : Counts) → c ≡ noCounts → Playable (Started p₀) (rooms phaseOutput) s₀ (stepping phaseOutput p₀) out₀ → Turning s₀ p₀ c out₀ 0
   turning-start c e h = record {
-    playing = rw e (playing-start (sampleAt sync phaseOutput) (rooms phaseOutput) Valid (keeps sync phaseOutput) s₀ (stepping phaseOutput p₀) out₀ (h .fit .short) (paired phaseOutput p₀) (h .fit .valid) (h .inside));
-    kept = h .fit .start;
+    playing = rw e (playing-start (sampleAt sync phaseOutput) (rooms phaseOutput) Valid (keeps sync phaseOutput) s₀ (stepping phaseOutput p₀) out₀ (h .fit .short) (paired phaseOutput p₀) (h .fit .valid .valid) (h .inside));
+    kept = h .fit .valid .start;
   }
 
   module _ (s : State) (p : Interpolators) (c : Counts) (out : List Float) (i : ℕ) (t : Turning s p c out i) where

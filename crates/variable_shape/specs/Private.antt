@@ -2,9 +2,7 @@
 -- A tick is 2^-24: 4456448 ticks are 17/64, and 21233664 are 81/64. Assumes nothing.
 use mathlib.Core.Path.{_≡_}
 use mathlib.Core.Bool.{Bool, true, cond}
-use mathlib.Core.List.{List}
-use Prim.Native.Nat.{_*_, _≤_}
-use lib.ListN.{length}
+use Prim.Native.Nat.{_*_}
 use lib.Ieee.{Float}
 use Rattle.floats.proofs.Ticks.{tick, cycle}
 use Rattle.floats.proofs.Ranges.{Under, Positive}
@@ -14,16 +12,14 @@ use Rattle.block.specs.declared.Answer.{Answer}
 use Rattle.edges.specs.declared.Edge.{Edge}
 use Rattle.rooms.specs.declared.Room.{Room}
 use Rattle.rooms.specs.declared.Room.the-variants.{Unused, Sixteen}
-use Rattle.rooms.specs.declared.Found.the-variants.{Nowhere}
 use Rattle.block.specs.Counting.{noCounts}
 use Rattle.ranges.specs.Ranges.{waveshapeIn, sixteenIn}
-use Rattle.rooms.specs.Steps.{stepsOf, firstOutside}
 use Rattle.edges.proofs.Crossings.{Crossable}
 use Rattle.states.specs.declared.variable_shape.State.{State}
 use Rattle.variable_shape.specs.declared.Rendered.{Rendered}
 use Rattle.variable_shape.specs.declared.steps.Interpolators.{Interpolators}
 use Rattle.variable_shape.specs.declared.steps.Steps.{Steps}
-use Rattle.variable_shape.specs.Block.{stateIn, stepping, rooms}
+use Rattle.variable_shape.specs.Block.{stateIn}
 
 -- a state in its ranges, whose phases are binary32 values
 pub record Valid (s : State) : Type 0 where
@@ -45,15 +41,10 @@ pub record Crossing (e : Edge) (pw : Float) : Type 0 where
   pub edge : Crossable e
   pub width : Under pw cycle
 
--- what is left to find out is whether a step leaves its room
-pub record Fit (s : State) (p : Interpolators) (xs : List Float) : Type 0 where
-  pub short : length xs ≤ 4096
+-- a valid state, and phase modulation's interpolator starts from it
+pub record Started (p : Interpolators) (s : State) : Type 0 where
   pub valid : Valid s
   pub start : p .«phase_modulation» .value ≡ s .«phase_modulation»
-
-pub record Playable (phaseOutput : Bool) (s : State) (p : Interpolators) (xs : List Float) : Type 0 where
-  pub fit : Fit s p xs
-  pub inside : firstOutside (rooms phaseOutput) (stepsOf (length xs) (stepping phaseOutput p)) ≡ Nowhere
 
 abbrev pub refused : Answer → State → Rendered
 refused answer s = record { answer = answer; state = s; counts = noCounts }

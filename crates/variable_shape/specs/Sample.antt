@@ -8,6 +8,7 @@ use Rattle.floats.specs.F32.{_⊕_, _⊖_, _⊗_, _⊘_, zero32, half32, one32,
 use Rattle.floats.specs.Helpers.{absOf}
 use Rattle.polyblep.specs.Polyblep.{thisBlepSample, nextBlepSample, thisIntegratedBlepSample, nextIntegratedBlepSample}
 use Rattle.edges.specs.declared.Edge.{Edge}
+use Rattle.edges.specs.Triangle.{triangleStep, riseTime}
 use Rattle.block.specs.Counting.{oneIf}
 use Rattle.edges.specs.Crossings.{crossings}
 use Rattle.edges.specs.Sync.{resetTime, slaveAtReset, wrapOnce, transitionDuringReset, cutEdge}
@@ -16,17 +17,18 @@ use Rattle.states.specs.declared.variable_shape.State.{State}
 use Rattle.variable_shape.specs.declared.steps.Steps.{Steps}
 use Rattle.variable_shape.specs.declared.waveform.Waveform.{Waveform}
 use Rattle.variable_shape.specs.declared.sample.Sampled.{Sampled}
-use Rattle.variable_shape.specs.Waveform.{waveformOf, naiveOf, triangleStepOf}
+use Rattle.variable_shape.specs.Waveform.{waveformOf, naiveOf}
 
--- up through the width, lines 149 to 157. The width moves too: where it has moved up by just the frequency, the divisor of t is 0.
+-- up through the width, lines 149 to 157
 unfoldable pub riseOf : Waveform → Edge → Edge
 riseOf w e =
-    let t = (e .phase ⊖ w .pw) ⊘ (w .«previous_pw» ⊖ w .pw ⊕ w .«slave_frequency») in
+    let t = riseTime (e .phase) (w .pw) (w .«previous_pw») (w .«slave_frequency») in
+    let step = triangleStep (w .«slope_up») (w .«slope_down») (w .«slave_frequency») (w .«triangle_amount») in
     record {
       phase = e .phase;
       high = true;
-      «this_sample» = e .«this_sample» ⊕ w .«square_amount» ⊗ thisBlepSample t ⊖ triangleStepOf w ⊗ thisIntegratedBlepSample t;
-      «next_sample» = e .«next_sample» ⊕ w .«square_amount» ⊗ nextBlepSample t ⊖ triangleStepOf w ⊗ nextIntegratedBlepSample t;
+      «this_sample» = e .«this_sample» ⊕ w .«square_amount» ⊗ thisBlepSample t ⊖ step ⊗ thisIntegratedBlepSample t;
+      «next_sample» = e .«next_sample» ⊕ w .«square_amount» ⊗ nextBlepSample t ⊖ step ⊗ nextIntegratedBlepSample t;
       rises = e .rises + 1;
       falls = e .falls;
     }
@@ -36,11 +38,12 @@ unfoldable pub fallOf : Waveform → Edge → Edge
 fallOf w e =
     let phase' = e .phase ⊖ one32 in
     let t = phase' ⊘ w .«slave_frequency» in
+    let step = triangleStep (w .«slope_up») (w .«slope_down») (w .«slave_frequency») (w .«triangle_amount») in
     record {
       phase = phase';
       high = false;
-      «this_sample» = e .«this_sample» ⊖ (one32 ⊖ w .«triangle_amount») ⊗ thisBlepSample t ⊕ triangleStepOf w ⊗ thisIntegratedBlepSample t;
-      «next_sample» = e .«next_sample» ⊖ (one32 ⊖ w .«triangle_amount») ⊗ nextBlepSample t ⊕ triangleStepOf w ⊗ nextIntegratedBlepSample t;
+      «this_sample» = e .«this_sample» ⊖ (one32 ⊖ w .«triangle_amount») ⊗ thisBlepSample t ⊕ step ⊗ thisIntegratedBlepSample t;
+      «next_sample» = e .«next_sample» ⊖ (one32 ⊖ w .«triangle_amount») ⊗ nextBlepSample t ⊕ step ⊗ nextIntegratedBlepSample t;
       rises = e .rises;
       falls = e .falls + 1;
     }

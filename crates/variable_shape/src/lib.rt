@@ -1,9 +1,11 @@
 // A waveform from triangle over saw to square, whose phase can be reset by a master: the source's oscillator/variable_shape_oscillator.rs.
 ghost use mathlib.Core.Path.{_≡_};
+ghost use Rattle.rooms.specs.Steps.{stepsOf, firstOutside};
 ghost use Rattle.block.specs.Calls.{run, playedOf};
+ghost use Rattle.block.specs.Fit.{Fit, Playable};
 ghost use Rattle.variable_shape.specs.Sample.{sampleAt};
 ghost use Rattle.variable_shape.specs.Block.{stateIn, parametersIn, stepping, rooms, renderOf, left};
-ghost use Rattle.variable_shape.specs.Private.{Fit, Playable, refused, modulationRoom};
+ghost use Rattle.variable_shape.specs.Private.{Started, refused, modulationRoom};
 use block::Answer;
 use block::Counts;
 use rooms::Found;
@@ -116,18 +118,10 @@ fn modulation_room(phase_output: bool) -> Room
     }
 }
 
-// Drift where a step leaves its room, else the samples.
-fn drift_or_play(
-    state: State,
-    p: Interpolators,
-    sync: bool,
-    phase_output: bool,
-    out: &mut [f32],
-) -> Rendered
-    requires { ⌜ Fit state p (now out) ⌝ }
-    ensures { λ r. ⌜ left r (now (out .exit)) ≡ run (sampleAt sync «phase_output») (rooms «phase_output») (stepping «phase_output» p) state (now (out .entry)) ⌝ }
+// The first sample with a step outside its room.
+fn walk(p: Interpolators, phase_output: bool, n: u32) -> Found
+    ensures { λ r. ⌜ r ≡ firstOutside (rooms «phase_output») (stepsOf n (stepping «phase_output» p)) ⌝ }
 {
-    let n = out.len() as u32;
     let master_fm = p.master_fm;
     let fm = p.fm;
     let pwm = p.pwm;
@@ -141,7 +135,21 @@ fn drift_or_play(
         Room::Waveshape,
         modulation_room(phase_output),
     ];
-    match rooms::first_outside(moving, kept, n) {
+    rooms::first_outside(moving, kept, n)
+}
+
+// Drift where a step leaves its room, else the samples.
+fn drift_or_play(
+    state: State,
+    p: Interpolators,
+    sync: bool,
+    phase_output: bool,
+    out: &mut [f32],
+) -> Rendered
+    requires { ⌜ Fit (Started p) state (now out) ⌝ }
+    ensures { λ r. ⌜ left r (now (out .exit)) ≡ run (sampleAt sync «phase_output») (rooms «phase_output») (stepping «phase_output» p) state (now (out .entry)) ⌝ }
+{
+    match walk(p, phase_output, out.len() as u32) {
         Found::Outside(i) => refuse(Answer::Drift(i), state),
         Found::Nowhere => play(state, p, sync, phase_output, out),
     }
@@ -155,7 +163,7 @@ fn play(
     phase_output: bool,
     out: &mut [f32],
 ) -> Rendered
-    requires { ⌜ Playable «phase_output» state interpolators (now out) ⌝ }
+    requires { ⌜ Playable (Started interpolators) (rooms «phase_output») state (stepping «phase_output» interpolators) (now out) ⌝ }
     ensures { λ r. ⌜ left r (now (out .exit)) ≡ playedOf (sampleAt sync «phase_output») state (stepping «phase_output» interpolators) (now (out .entry)) ⌝ }
 {
     let mut s = state;

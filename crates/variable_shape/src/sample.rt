@@ -10,6 +10,7 @@ use crate::waveform;
 use crate::waveform::Waveform;
 use block::Counts;
 use edges::Edge;
+use edges::triangle;
 
 pub struct Sampled {
     pub state: State,
@@ -22,8 +23,13 @@ fn rise(e: Edge, w: Waveform) -> Edge
     requires { ⌜ e .rises < 2 ⌝ }
     ensures { λ r. ⌜ r ≡ riseOf w e ⌝ }
 {
-    let t = (e.phase - w.pw) / (w.previous_pw - w.pw + w.slave_frequency);
-    let step = waveform::triangle_step(w);
+    let t = triangle::rise_time(e.phase, w.pw, w.previous_pw, w.slave_frequency);
+    let step = triangle::triangle_step(
+        w.slope_up,
+        w.slope_down,
+        w.slave_frequency,
+        w.triangle_amount,
+    );
     Edge {
         phase: e.phase,
         high: true,
@@ -43,7 +49,12 @@ fn fall(e: Edge, w: Waveform) -> Edge
 {
     let phase = e.phase - 1.0;
     let t = phase / w.slave_frequency;
-    let step = waveform::triangle_step(w);
+    let step = triangle::triangle_step(
+        w.slope_up,
+        w.slope_down,
+        w.slave_frequency,
+        w.triangle_amount,
+    );
     Edge {
         phase,
         high: false,

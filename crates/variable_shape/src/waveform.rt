@@ -1,7 +1,8 @@
 // The waveform at one sample: how much of it is square and how much triangle, and the triangle's slopes.
 ghost use mathlib.Core.Path.{_≡_};
-ghost use Rattle.variable_shape.specs.Waveform.{waveformOf, squareOf, triangleOf, naiveOf, triangleStepOf};
+ghost use Rattle.variable_shape.specs.Waveform.{waveformOf, squareOf, naiveOf};
 use crate::steps::Steps;
+use edges::triangle;
 
 pub struct Waveform {
     pub slave_frequency: f32,
@@ -33,27 +34,10 @@ fn square(phase: f32, pw: f32) -> f32
     if phase < pw { 0.0 } else { 1.0 }
 }
 
-fn triangle(phase: f32, pw: f32, slope_up: f32, slope_down: f32) -> f32
-    ensures { λ r. ⌜ r ≡ triangleOf phase pw «slope_up» «slope_down» ⌝ }
-{
-    if phase < pw {
-        phase * slope_up
-    } else {
-        1.0 - (phase - pw) * slope_down
-    }
-}
-
 // The source's compute_naive_sample: the waveform with its edges as they are.
 pub(crate) fn naive(w: Waveform, phase: f32) -> f32
     ensures { λ r. ⌜ r ≡ naiveOf w phase ⌝ }
 {
     let saw = phase + (square(phase, w.pw) - phase) * w.square_amount;
-    saw + (triangle(phase, w.pw, w.slope_up, w.slope_down) - saw) * w.triangle_amount
-}
-
-// How much the triangle's slope changes at an edge, over one sample.
-pub(crate) fn triangle_step(w: Waveform) -> f32
-    ensures { λ r. ⌜ r ≡ triangleStepOf w ⌝ }
-{
-    (w.slope_up + w.slope_down) * w.slave_frequency * w.triangle_amount
+    saw + (triangle::triangle(phase, w.pw, w.slope_up, w.slope_down) - saw) * w.triangle_amount
 }

@@ -14,7 +14,7 @@ abbrev μ-loop : tie.MeasureT-loop
 μ-loop num-bits out₀ d s₀ moving₀ counts₀ i₀ out s moving counts i = length out₀ - i
 
 of-bits-requires : tie.Need-of-bits-requires Inv-loop μ-loop
-of-bits-requires c κs = let b = c .before .pre .fit .bits-in in (b .low, b .high)
+of-bits-requires c κs = let b = c .before .pre .fit .valid .bits-in in (b .low, b .high)
 
 none-requires : tie.Need-none-requires Inv-loop μ-loop
 none-requires c κs = search needs
@@ -22,7 +22,7 @@ none-requires c κs = search needs
 loop-holds : tie.Need-loop-holds Inv-loop μ-loop
 loop-holds c =
     let p = c .before .before .before .pre in
-    turning-start _ (p .fit .bits-in) _ _ _ _ (c .none .ensures) p
+    turning-start _ (p .fit .valid .bits-in) _ _ _ _ (c .none .ensures) p
 
 next-requires : tie.Need-next-requires Inv-loop μ-loop
 next-requires c κs = search needs
@@ -31,7 +31,7 @@ sample-requires : tie.Need-sample-requires Inv-loop μ-loop
 sample-requires c κs =
     let t = c .before in
     let o = t .before .before .before in
-    turning-ready _ (o .before .before .pre .fit .bits-in) _ _ _ _ _ _ _ _ (t .before .loop .inv) (t .loop-test .taken) _ _ (o .of-bits .ensures) (c .next .ensures)
+    turning-ready _ (o .before .before .pre .fit .valid .bits-in) _ _ _ _ _ _ _ _ (t .before .loop .inv) (t .loop-test .taken) _ _ (o .of-bits .ensures) (c .next .ensures)
 
 mul-out : tie.Need-mul-out Inv-loop μ-loop
 mul-out c = search needs
@@ -53,7 +53,7 @@ loop-again c =
     let n = c .before .before .before in
     let t = n .before in
     let o = t .before .before .before in
-    turning-more _ (o .before .before .pre .fit .bits-in) _ _ _ _ _ _ _ _ (t .before .loop .inv) (t .loop-test .taken) _ _ (o .of-bits .ensures) (n .next .ensures) _ _ (c .before .before .sample .ensures) (c .sum .ensures)
+    turning-more _ (o .before .before .pre .fit .valid .bits-in) _ _ _ _ _ _ _ _ (t .before .loop .inv) (t .loop-test .taken) _ _ (o .of-bits .ensures) (n .next .ensures) _ _ (c .before .before .sample .ensures) (c .sum .ensures)
 
 same-length : tie.Need-same-length Inv-loop μ-loop
 same-length c = c .before .loop .inv .long
@@ -61,7 +61,7 @@ same-length c = c .before .loop .inv .long
 returns : tie.Need-returns Inv-loop μ-loop
 returns c =
     let o = c .before .before .before in
-    turning-end _ (o .before .before .pre .fit .bits-in) _ _ _ _ _ _ _ _ (c .before .loop .inv) (c .loop-test .left)
+    turning-end _ (o .before .before .pre .fit .valid .bits-in) _ _ _ _ _ _ _ _ (c .before .loop .inv) (c .loop-test .left)
 
 pub play-spec : {M : Type 1} → statement M
 play-spec =

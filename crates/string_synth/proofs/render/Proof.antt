@@ -58,24 +58,12 @@ cast-n c = search needs
 targets-requires : tie.Need-targets-requires
 targets-requires c κs = search needs
 
-new-requires : tie.Need-new-requires
-new-requires c κs = search needs
-
-new-requires-2 : tie.Need-new-requires-2
-new-requires-2 c κs = search needs
-
-new-requires-3 : tie.Need-new-requires-3
-new-requires-3 c κs = search needs
-
-new-requires-4 : tie.Need-new-requires-4
-new-requires-4 c κs = search needs
-
-new-requires-5 : tie.Need-new-requires-5
-new-requires-5 c κs = search needs
+start-requires : tie.Need-start-requires
+start-requires c κs = search needs
 
 drift-or-play-requires : tie.Need-drift-or-play-requires
 drift-or-play-requires c κs =
-    let e = c .before .before .before .before .before .before .before in
+    let e = c .before .before .before in
     let t = e .before .before .before .before in
     let l = t .before .before in
     let g = l .before .before .before .good .0 in
@@ -87,18 +75,14 @@ same-length c = search needs
 returns-6 : tie.Need-returns-6
 returns-6 c =
     let d = c .before .before in
-    let n1 = d .before .before in
-    let n2 = n1 .before in
-    let n4 = n2 .before in
-    let n8 = n4 .before in
-    let nf = n8 .before in
-    let to = nf .before in
+    let m = d .before .before in
+    let to = m .before in
     let h = to .before in
     let e = h .before in
     let p = e .before in
     let t = p .before .before in
     rendered _ _ _ _ _ (d .drift-or-play .result) (t .before .before .if1 .left) (t .before .if2 .left) (sym (t .state-in .ensures) ∙ not-false _ (p .before .if3 .left)) (sym (p .parameters-in .ensures) ∙ not-false _ (e .if4 .left))
-    (h .if5 .left) _ _ _ _ _ _ _ (to .targets .ensures) (nf .new .ensures) (n8 .new2 .ensures) (n4 .new3 .ensures) (n2 .new4 .ensures) (n1 .new5 .ensures) (d .drift-or-play .ensures)
+    (h .if5 .left) _ _ _ (to .targets .ensures) (m .start .ensures) (d .drift-or-play .ensures)
 
 pub render-spec : {M : Type 1} → statement M
 render-spec =
@@ -118,11 +102,7 @@ render-spec =
     returns-5
     cast-n
     targets-requires
-    new-requires
-    new-requires-2
-    new-requires-3
-    new-requires-4
-    new-requires-5
+    start-requires
     drift-or-play-requires
     same-length
     returns-6)

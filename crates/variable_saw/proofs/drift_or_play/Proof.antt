@@ -1,14 +1,15 @@
 -- `variable_saw::drift_or_play` meets its contract: the walk's answer decides, as in the definition. Assumes nothing.
+use mathlib.Core.Path.{_∙_, sym}
 use borrow.Author.Needs.{needs}
-use Rattle.variable_saw.proofs.Calls.{drifted, playable, played}
+use Rattle.block.proofs.Runs.{walk-drift, walk-done}
 use Rattle.variable_saw.proofs.drift_or_play.Statement.{statement}
 use Rattle.variable_saw.proofs.drift_or_play.Tie as tie
 
-cast-n : tie.Need-cast-n
-cast-n c = search needs
+cast-walk : tie.Need-cast-walk
+cast-walk c = search needs
 
-first-outside-requires : tie.Need-first-outside-requires
-first-outside-requires c κs = search needs
+walk-requires : tie.Need-walk-requires
+walk-requires c κs = search needs
 
 enum-known-i : tie.Need-enum-known-i
 enum-known-i c = search needs
@@ -23,12 +24,12 @@ play-requires : tie.Need-play-requires
 play-requires c κs =
     let t = c .before in
     let w = t .before .before in
-    playable _ _ _ _ _ _ _ (w .first-outside .ensures) (t .enum-told .given .1) (w .before .before .pre)
+    record { fit = w .before .before .pre; inside = sym (w .walk .ensures) ∙ t .enum-told .given .1 }
 
 returns : tie.Need-returns
 returns c =
     let t = c .before in
-    drifted _ _ _ _ _ _ _ (t .before .before .before .first-outside .ensures) _ _ (t .before .i .given .1) (c .refuse .ensures)
+    rw (c .refuse .ensures) (walk-drift _ _ _ _ _ _ (t .before .before .before .walk .ensures) _ (t .before .i .given .1))
 
 same-length : tie.Need-same-length
 same-length c = search needs
@@ -37,14 +38,14 @@ returns-2 : tie.Need-returns-2
 returns-2 c =
     let p = c .before .before in
     let t = p .before .before in
-    played _ _ _ _ _ _ _ (t .before .before .first-outside .ensures) (t .enum-told .given .1) (p .play .result) _ (p .play .ensures)
+    p .play .ensures ∙ walk-done _ _ _ _ _ _ (t .before .before .walk .ensures) (t .enum-told .given .1)
 
 pub drift-or-play-spec : {M : Type 1} → statement M
 drift-or-play-spec =
     tie.close
     (tie.spec
-    cast-n
-    first-outside-requires
+    cast-walk
+    walk-requires
     enum-known-i
     refuse-requires
     enum-told

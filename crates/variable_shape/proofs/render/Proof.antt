@@ -52,8 +52,10 @@ drift-or-play-requires c κs =
     let g = a .good .0 in
     record {
       short = t .before .if1 .left;
-      valid = valid-of _ (sym (t .state-in .ensures) ∙ not-false _ (p .before .if2 .left)) (subst T (sym (g .1 .1 .0 .1)) tt) (subst T (sym (g .1 .1 .1 .0 .1)) tt);
-      start = starts (a .args .state) _ _ _ _ _ _ _ (b .start .ensures);
+      valid = record {
+        valid = valid-of _ (sym (t .state-in .ensures) ∙ not-false _ (p .before .if2 .left)) (subst T (sym (g .1 .1 .0 .1)) tt) (subst T (sym (g .1 .1 .1 .0 .1)) tt);
+        start = starts (a .args .state) _ _ _ _ _ _ _ (b .start .ensures);
+      };
     }
 
 same-length : tie.Need-same-length

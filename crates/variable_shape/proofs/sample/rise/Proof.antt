@@ -5,6 +5,9 @@ use borrow.Author.Needs.{needs}
 use Rattle.variable_shape.proofs.sample.rise.Statement.{statement}
 use Rattle.variable_shape.proofs.sample.rise.Tie as tie
 
+rise-time-requires : tie.Need-rise-time-requires
+rise-time-requires c κs = search needs
+
 triangle-step-requires : tie.Need-triangle-step-requires
 triangle-step-requires c κs = search needs
 
@@ -29,12 +32,14 @@ returns c =
     let n = c .before .before .before .before in
     let t = n .before in
     let b = t .before .before .before in
-    rw (b .before .triangle-step .ensures, b .this-blep-sample .ensures, t .this-integrated-blep-sample .ensures, n .next-blep-sample .ensures, c .before .next-integrated-blep-sample .ensures) refl
+    let s = b .before in
+    rw (s .triangle-step .ensures, b .this-blep-sample .ensures, t .this-integrated-blep-sample .ensures, n .next-blep-sample .ensures, c .before .next-integrated-blep-sample .ensures, s .before .rise-time .ensures) refl
 
 pub rise-spec : {M : Type 1} → statement M
 rise-spec =
     tie.close
     (tie.spec
+    rise-time-requires
     triangle-step-requires
     this-blep-sample-requires
     this-integrated-blep-sample-requires

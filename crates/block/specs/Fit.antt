@@ -1,0 +1,20 @@
+-- What the functions of an oscillator ask of each other, whatever a valid state is for it. No public contract cites it, and a reader need not believe it. Assumes nothing.
+use mathlib.Core.Path.{_≡_}
+use mathlib.Core.List.{List}
+use Prim.Native.Nat.{_≤_}
+use lib.ListN.{length}
+use lib.Ieee.{Float}
+use Rattle.parameter_interpolator.specs.declared.ParameterInterpolator.{ParameterInterpolator}
+use Rattle.rooms.specs.declared.Room.{Room}
+use Rattle.rooms.specs.declared.Found.the-variants.{Nowhere}
+use Rattle.rooms.specs.Steps.{stepsOf, firstOutside}
+
+-- a call that passed its tests: what is left to find out is whether a step leaves its room
+pub record Fit {S : Type 0} (Valid : S → Type 0) (s : S) (xs : List Float) : Type 0 where
+  pub short : length xs ≤ 4096
+  pub valid : Valid s
+
+-- and none does
+pub record Playable {S : Type 0} (Valid : S → Type 0) (rooms : List Room) (s : S) (ps : List ParameterInterpolator) (xs : List Float) : Type 0 where
+  pub fit : Fit Valid s xs
+  pub inside : firstOutside rooms (stepsOf (length xs) ps) ≡ Nowhere

@@ -1,0 +1,28 @@
+// The triangle that the variable shape and the variable saw mix in, and the time of an edge at a width that moves.
+ghost use mathlib.Core.Path.{_≡_};
+ghost use Rattle.edges.specs.Triangle.{triangle as triangleOf, triangleStep, riseTime};
+
+// Up to the width, and down again to 1.
+pub fn triangle(phase: f32, pw: f32, slope_up: f32, slope_down: f32) -> f32
+    ensures { λ r. ⌜ r ≡ triangleOf phase pw «slope_up» «slope_down» ⌝ }
+{
+    if phase < pw {
+        phase * slope_up
+    } else {
+        1.0 - (phase - pw) * slope_down
+    }
+}
+
+// How much the triangle's slope changes at an edge, over one sample.
+pub fn triangle_step(slope_up: f32, slope_down: f32, frequency: f32, amount: f32) -> f32
+    ensures { λ r. ⌜ r ≡ triangleStep «slope_up» «slope_down» frequency amount ⌝ }
+{
+    (slope_up + slope_down) * frequency * amount
+}
+
+// How many samples ago the phase came to the width, which moves too.
+pub fn rise_time(phase: f32, pw: f32, previous_pw: f32, frequency: f32) -> f32
+    ensures { λ r. ⌜ r ≡ riseTime phase pw «previous_pw» frequency ⌝ }
+{
+    (phase - pw) / (previous_pw - pw + frequency)
+}
