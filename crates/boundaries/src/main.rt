@@ -1,5 +1,5 @@
 // The figures of the request that are run, each with its name: how long a block may be, how long a registration is, how high a string goes, and where the saw drifts.
-ghost use Prim.Native.Nat.{_≤_, _<_};
+ghost use Prim.Native.Nat.{_≤_};
 use block::Answer;
 use libc::STDOUT_FILENO;
 

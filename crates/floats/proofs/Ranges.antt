@@ -10,11 +10,11 @@ use lib.Dec.{T, lit<}
 use lib.Pow.{pow-pos}
 use lib.Ieee.{Float, nan, inf, fin, binary32, lt, le, fits, ofBits}
 use lib.Ieee.Scale.{finite}
-use Rattle.floats.specs.F32.{_⊕_, _⊖_, _⊗_, _⊘_, zero32, half32, one32}
+use Rattle.floats.specs.F32.{_⊕_, _⊖_, _⊗_, _⊘_, zero32, one32}
 use Rattle.floats.proofs.Rounding.{rnd, rnd-mono, rnd-exact}
 use Rattle.floats.proofs.Order.{lt→le}
 use Rattle.floats.proofs.At.{At, sizeOf, at-of, at-rnd, at-huge, mul-at, div-at, lt-at, le-at}
-use Rattle.floats.proofs.Ticks.{tick, cycle, zero-at, half-at, one-at, wrap-1, below-one}
+use Rattle.floats.proofs.Ticks.{tick, cycle, zero-at, one-at, wrap-1, below-one}
 use Rattle.floats.proofs.Turn.{turn-1, turn-sum}
 
 pub record Under (x : Float) (B : ℕ) : Type 0 where
@@ -56,10 +56,6 @@ module _ {x y : Float} {a b : ℕ} (p : At x a) (q : At y b) where
 pub at-least-0 : {x : Float} {n : ℕ} → At x n → le zero32 x ≡ true
 at-least-0 p = passes-le zero-at p zero-le
 
--- a phase in its lower half
-pub half-under : {x : Float} {n : ℕ} → At x n → lt x half32 ≡ true → n < 8388608 * tick
-half-under p h = passed-lt p half-at h
-
 -- ---- from the tests to the range
 finite-le : (x y : Float) {b : ℕ} → At y b → le zero32 x ≡ true → le x y ≡ true → T (finite x)
 unfolding le ofBits
@@ -88,14 +84,8 @@ module _ {x y : Float} {b : ℕ} (q : At y b) where
   pub under-lt : Under x b → lt x y ≡ true
   under-lt r = passes-lt (r .at) q (r .under)
 
-  pub upto-le : UpTo x b → le x y ≡ true
-  upto-le r = passes-le (r .at) q (r .most)
-
   pub positive-le : Positive x b → le x y ≡ true
   positive-le r = passes-le (r .at) q (r .most)
-
-pub positive-lt : {x : Float} {b : ℕ} → Positive x b → lt zero32 x ≡ true
-positive-lt r = passes-lt zero-at (r .at) (r .some)
 
 -- ---- quotients and products for a reset
 -- x / y ≤ 1 for x ≤ y

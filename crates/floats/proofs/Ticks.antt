@@ -2,14 +2,14 @@
 -- `tick` stays shut, since `omega` reads no numeral above 38 digits: so every bound is linear in it. Assumes nothing.
 use mathlib.Core.Path.{_≡_, refl, sym, ap, _∙_, subst}
 use Prim.Native.Nat.{ℕ, suc, _+_, _-_, _*_, _^_, _≤_, _<_}
-use native.Mathlib.Nat.{le-trans, le-of-eq, le-of-lt, lt-of-le-of-lt, lt-of-lt-of-le, lt-of-not-le, not-le-of-lt, mul-assoc, mul-comm, pow-suc, suc-mul, mul-sub, mul-le-mul-right, mul-lt-mul-of-pos-right, lt-of-mul-lt-mul-right, sub-le, add-le-add-iff-right}
+use native.Mathlib.Nat.{le-trans, le-of-eq, le-of-lt, lt-of-le-of-lt, lt-of-not-le, not-le-of-lt, mul-assoc, mul-comm, pow-suc, suc-mul, mul-sub, mul-le-mul-right, lt-of-mul-lt-mul-right, sub-le, add-le-add-iff-right}
 use native.Mathlib.Omega.{arith}
 use mathlib.Core.Bool.{Bool, true, false, not}
-use lib.Dec.{T, leb, ltb, leb→le, nleb→lt, ltb→lt, lit≤}
+use lib.Dec.{T, leb, leb→le, nleb→lt, lit≤}
 use lib.Pow.{pow-add, pow-pos, pow-mono, shl-lt}
 use lib.Ieee.{Float, fits, ofBits}
 use lib.Ieee.Digits.{back}
-use Rattle.floats.specs.F32.{_⊕_, _⊖_, half32, one32, two32, eight32, topStep, topStringStep, topSum}
+use Rattle.floats.specs.F32.{_⊕_, _⊖_, half32, one32, eight32, topStep, topStringStep, topSum}
 use Rattle.floats.proofs.Rounding.{Within, rnd, rnd-exact, rnd-off, rnd-up, rnd-dn}
 use Rattle.floats.proofs.At.{At, Even, huge, at-even, at-rnd, at-huge, add-at, sub-at}
 pub use Rattle.floats.proofs.At.{zero-at}
@@ -39,10 +39,6 @@ pub one-at : At one32 cycle
 unfolding tick fits ofBits
 one-at = record { fit = tt; reads = refl }
 
-pub two-at : At two32 (2 * cycle)
-unfolding tick fits ofBits
-two-at = record { fit = tt; reads = refl }
-
 pub eight-at : At eight32 (8 * cycle)
 unfolding tick fits ofBits
 eight-at = record { fit = tt; reads = refl }
@@ -63,10 +59,6 @@ topSum-at = record { fit = tt; reads = refl }
 pub off-2 : (n : ℕ) → n < 2 * cycle → Within (rnd n 1) n tick
 unfolding tick
 off-2 n h = rnd-off n 125 h
-
-pub off-16 : (n : ℕ) → n < 16 * cycle → Within (rnd n 1) n (8 * tick)
-unfolding tick
-off-16 n h = rnd-off n 128 h
 
 -- ---- an exact difference
 gap : (k j : ℕ) → 23 + k < 24 + j → k ≤ j
@@ -124,10 +116,6 @@ pub wrap-1 : {s : Float} {n : ℕ} → At s n → cycle ≤ n → n < 2 * cycle 
 unfolding tick
 wrap-1 p lo hi = wrap 125 refl p one-at lo hi
 
-pub wrap-8 : {s : Float} {n : ℕ} → At s n → 8 * cycle ≤ n → n < 16 * cycle → At (s ⊖ eight32) (n - 8 * cycle)
-unfolding tick
-wrap-8 p lo hi = wrap 128 refl p eight-at lo hi
-
 -- ---- x + y: what the sum is, for a bound B that binary32 holds
 pub record Sum (z : Float) (a b B e : ℕ) : Type 0 where
   pub n : ℕ
@@ -148,16 +136,6 @@ sum-with {x} {y} {a} {b} B e p q r h l w =
       right = rnd-dn (a + b) b (at-rnd q) (omega arith);
       top = t;
     }
-
--- B is m ticks, below 2.0, with rnd B 1 ≡ B by computation
-pub sum-2 : {x y : Float} {a b : ℕ} (m : ℕ) → At x a → At y b → T (ltb m 33554432) → rnd (m * tick) 1 ≡ m * tick → a + b ≤ m * tick → Sum (x ⊕ y) a b (m * tick) tick
-sum-2 {x} {y} {a} {b} m p q t r l = sum-with (m * tick) tick p q r (lt-of-lt-of-le low end) l (off-2 (a + b) (lt-of-le-of-lt l (omega (arith, low))))
-  where
-    low : m * tick < 33554432 * tick
-    low = mul-lt-mul-of-pos-right (ltb→lt m 33554432 t) tick-pos
-
-    end : 33554432 * tick ≤ huge
-    end = unfold tick in lit≤ tt
 
 -- ---- a value below 1 is 1 - 2 ^ -24 at most
 pub below-one : {x : Float} {a : ℕ} → At x a → a < cycle → a + tick ≤ cycle
