@@ -20,11 +20,11 @@ use Rattle.block.specs.Counting.{noCounts}
 use Rattle.rooms.specs.Steps.{stepsOf, firstOutside}
 use Rattle.block.specs.Play.{Sample, play}
 use Rattle.block.specs.Calls.{Call, refusal, done, run}
-use Rattle.block.specs.Account.{column, usedBy, Balanced}
+use Rattle.block.specs.Account.{column, usedBy, Balanced, sampleCounts, EachLimited}
 use Rattle.block.proofs.Plays.{Few, few-none, Inside, Keeps}
 use Rattle.block.proofs.Runs.{run-drift, run-done}
 use Rattle.block.proofs.Accounts.{OneSample, Steps, steps-none, block-law, CallLaw, Untouched}
-use Rattle.block.proofs.Limits.{block-few, block-balance}
+use Rattle.block.proofs.Limits.{block-limited, block-few, block-balance}
 
 -- few counts are few of more samples too
 pub few-most : {m n : ℕ} {c : Counts} → m ≤ n → Few m c → Few n c
@@ -63,6 +63,13 @@ module _ {S : Type 0} (make : S → List Float → Float → Sample S) (rooms : 
       go : (f : Found) → firstOutside rooms (stepsOf (length xs) ps) ≡ f → Few (length xs) (run make rooms ps s xs .counts)
       go (Outside i) h = rw (run-drift make rooms ps s xs i h) (few-most (omega arith) few-none)
       go Nowhere h = rw (run-done make rooms ps s xs h) (subst (λ (n : ℕ). Few n (play make s noCounts (stepsOf (length xs) ps) xs .counts)) (zero-add (length xs)) (block-few make rooms Ok keeps (length xs) 0 ps xs s noCounts refl paired h o few-none))
+
+  pub run-limited : run make rooms ps s xs .number ≡ 0 → EachLimited (sampleCounts make s (stepsOf (length xs) ps) xs)
+  run-limited = go (firstOutside rooms (stepsOf (length xs) ps)) refl
+    where
+      go : (f : Found) → firstOutside rooms (stepsOf (length xs) ps) ≡ f → run make rooms ps s xs .number ≡ 0 → EachLimited (sampleCounts make s (stepsOf (length xs) ps) xs)
+      go (Outside i) h e = absurd (omega (arith, sym (ap (λ (c : Call S). c .number) (run-drift make rooms ps s xs i h)) ∙ e))
+      go Nowhere h e = block-limited make rooms Ok keeps (length xs) ps xs s refl paired h o
 
   pub run-balance : (high : S → Bool) → ((s : S) (steps : List Float) (x : Float) → Ok s → Inside rooms steps → Balanced (high s) (make s steps x .counts) (high (make s steps x .state)))
       → Balanced (high s) (run make rooms ps s xs .counts) (high (run make rooms ps s xs .state))

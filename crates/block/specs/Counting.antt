@@ -1,5 +1,6 @@
 -- The four counts of 01: none, their sum, and a bool counted. Assumes nothing.
 use mathlib.Core.Bool.{Bool, cond}
+use mathlib.Core.List.{List, [], _∷_}
 use Prim.Native.Nat.{ℕ, _+_, _%_, _^_}
 use Rattle.block.specs.declared.Counts.{Counts}
 
@@ -13,6 +14,11 @@ plus a b = record {
   falls = a .falls + b .falls;
   cuts = a .cuts + b .cuts;
 }
+
+-- those of a list added up, from c on
+unfoldable pub total : Counts → List Counts → Counts
+total c [] = c
+total c (d ∷ rest) = total (plus c d) rest
 
 -- as 32-bit numbers hold them
 abbrev pub wrapped : Counts → Counts

@@ -1,11 +1,12 @@
 -- Demand 3: "Chain any answered blocks of one oscillator, each from the state left before, sync never switched and no phase set by hand: the cycles counted, plus the
--- last phase, less the first, differ from the exact sum of the frequency steps used by at most 2^-24 cycle per sample."
+-- last phase, less the first, differ from the exact sum of the frequency steps used by at most 2^-24 cycle per sample. No sample counts two cycles, two falls or three rises."
 -- A chain is a list of calls with any arguments, refused and empty ones among them. `Accounted` reads each float as its exact value, in units of 2^-149.
 -- A cycle is 2^149 units and 2^-24 of it is 2^125; the string's cycle is 8 units of phase, 2^152, and 2^-24 of it is 2^128. Assumes nothing.
+use mathlib.Core.Path.{_≡_}
 use mathlib.Core.Bool.{Bool}
 use mathlib.Core.List.{List}
 use Prim.Native.Nat.{_^_}
-use Rattle.block.specs.Account.{Accounted, chain}
+use Rattle.block.specs.Account.{Accounted, chain, EachLimited}
 use Rattle.states.specs.declared.super_square.State as SuperSquareState
 use Rattle.super_square.specs.Block as SuperSquare
 use Rattle.super_square.proofs.Phase as SuperSquarePhase
@@ -45,3 +46,19 @@ nes-triangle = NesPhase.chain-accounted
 pub string-synth : (s : StringState.State) (calls : List String.Arguments) → String.Phase32 s
     → (let r = chain String.callOf String.usedOf s calls in Accounted (2 ^ 152) (2 ^ 128) (s .phase) (r .cycles) (r .state .phase) (r .steps))
 string-synth = StringPhase.chain-accounted
+
+-- the limits: of each sample of an answered call, whatever state it starts from
+pub super-square-limits : (s : SuperSquareState.State) (a : SuperSquare.Arguments) → SuperSquare.Phases32 s → SuperSquare.callOf s a .number ≡ 0 → EachLimited (SuperSquare.countsOf s a)
+super-square-limits = SuperSquarePhase.samples-limited
+
+pub variable-shape-limits : (sync : Bool) (s : ShapeState.State) → Shape.Phases32 s → (a : Shape.Arguments) → Shape.callOf sync s a .number ≡ 0 → EachLimited (Shape.countsOf sync s a)
+variable-shape-limits = ShapePhase.samples-limited
+
+pub variable-saw-limits : (s : SawState.State) (a : Saw.Arguments) → Saw.Phase32 s → Saw.callOf s a .number ≡ 0 → EachLimited (Saw.countsOf s a)
+variable-saw-limits = SawPhase.samples-limited
+
+pub nes-triangle-limits : (s : NesState.State) (a : Nes.Arguments) → Nes.Phase32 s → Nes.callOf s a .number ≡ 0 → EachLimited (Nes.countsOf s a)
+nes-triangle-limits = NesPhase.samples-limited
+
+pub string-synth-limits : (s : StringState.State) (a : String.Arguments) → String.Phase32 s → String.callOf s a .number ≡ 0 → EachLimited (String.countsOf s a)
+string-synth-limits = StringPhase.samples-limited

@@ -15,19 +15,19 @@ use Rattle.floats.proofs.At.{At}
 use Rattle.floats.proofs.Ticks.{tick, cycle}
 use Rattle.floats.proofs.Ranges.{Under}
 use Rattle.ranges.specs.Ranges.{phaseIn}
-use Rattle.block.specs.Account.{Accounted, chain, usedBy}
+use Rattle.block.specs.Account.{Accounted, chain, usedBy, EachLimited}
 use Rattle.block.specs.Calls.{Call, refusal, run}
 use Rattle.ranges.proofs.Bools.{cond-both, either-way}
 use Rattle.block.proofs.Plays.{Few, few-none, Inside}
 use Rattle.rooms.proofs.RangeLaws.{phase-under}
 use Rattle.block.proofs.Accounts.{OneSample, steps-one, steps-accounted, CallLaw, Untouched, call-accounts, chain-accounts}
-use Rattle.block.proofs.CallLaws.{few-most, not-done, refusal-untouched, refusal-law, run-law, run-few}
+use Rattle.block.proofs.CallLaws.{few-most, not-done, refusal-untouched, refusal-law, run-law, run-few, run-limited}
 use Rattle.block.proofs.Neither.{NeitherFallsNorCuts, neither-none, run-neither}
 use Rattle.states.specs.declared.nes_triangle.State.{State}
 use Rattle.nes_triangle.specs.Depth.{testedBits}
 use Rattle.nes_triangle.specs.Sample.{finish, sampleOf, sampleAt}
 use Rattle.states.specs.NesTriangle.{newState, initState}
-use Rattle.nes_triangle.specs.Block.{stateIn, parametersIn, interpolators, rooms, renderOf, Arguments, callOf, usedOf, Phase32}
+use Rattle.nes_triangle.specs.Block.{stateIn, parametersIn, interpolators, rooms, renderOf, Arguments, callOf, usedOf, countsOf, Phase32}
 use Rattle.nes_triangle.specs.Private.{Valid, BitsIn}
 use Rattle.nes_triangle.proofs.Keeping.{law-of, keeps}
 use Rattle.nes_triangle.proofs.Calls.{bits-of, bits-in-of, valid-of, of-valid}
@@ -104,6 +104,15 @@ module _ (s : State) (a : Arguments) where
         let in-range = bits-of (a .frequency) (a .bits) k in
         let b = bits-in-of (a .bits) in-range in
         run-few (sampleAt (a .bits)) rooms (Valid (a .bits)) (keeps (a .bits) b) _ refl s (a .buffer) (valid-of (a .bits) s f in-range h))
+
+    -- "No sample counts two cycles, two falls or three rises": in an answered call from any state
+    pub samples-limited : callOf s a .number ≡ 0 → EachLimited (countsOf s a)
+    samples-limited =
+        by-ways (λ (c : Call State). c .number ≡ 0 → EachLimited (countsOf s a)) not-done
+        (λ h k.
+        let in-range = bits-of (a .frequency) (a .bits) k in
+        let b = bits-in-of (a .bits) in-range in
+        run-limited (sampleAt (a .bits)) rooms (Valid (a .bits)) (keeps (a .bits) b) _ refl s (a .buffer) (valid-of (a .bits) s f in-range h))
 
     -- the state after an answered call is valid for its bits
     pub done-valid : callOf s a .number ≡ 0 → stateIn (callOf s a .state) (a .bits) ≡ true

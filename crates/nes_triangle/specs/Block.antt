@@ -12,9 +12,11 @@ use Rattle.parameter_interpolator.specs.declared.ParameterInterpolator.{Paramet
 use Rattle.parameter_interpolator.specs.Interpolator.{newInterpolator}
 use Rattle.rooms.specs.declared.Room.{Room}
 use Rattle.rooms.specs.declared.Room.the-variants.{Frequency}
+use Rattle.rooms.specs.Steps.{stepsOf}
 use Rattle.ranges.specs.Ranges.{phaseIn, frequencyIn, parameterFrequencyIn}
+use Rattle.block.specs.declared.Counts.{Counts}
 use Rattle.block.specs.Calls.{Call, refusal, run, gave}
-use Rattle.block.specs.Account.{usedBy}
+use Rattle.block.specs.Account.{usedBy, sampleCounts}
 use Rattle.states.specs.declared.nes_triangle.State.{State}
 use Rattle.nes_triangle.specs.declared.Rendered.{Rendered}
 use Rattle.nes_triangle.specs.Depth.{bitsIn, testedBits}
@@ -63,6 +65,10 @@ callOf s a = renderOf s (a .frequency) (a .bits) (a .buffer)
 
 abbrev pub usedOf : State → Arguments → List Float
 usedOf s a = usedBy (callOf s a) 0 (length (a .buffer)) (interpolators s (a .frequency) (length (a .buffer)))
+
+-- and the counts of each sample that it made, if it was answered
+abbrev pub countsOf : State → Arguments → List Counts
+countsOf s a = sampleCounts (sampleAt (a .bits)) s (stepsOf (length (a .buffer)) (interpolators s (a .frequency) (length (a .buffer)))) (a .buffer)
 
 -- the state's phase is a binary32 value, as that of every `State` of a program is
 abbrev pub Phase32 : State → Type 0

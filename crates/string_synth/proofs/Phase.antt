@@ -12,17 +12,17 @@ use Rattle.floats.specs.F32.{zero32, half32}
 use Rattle.floats.proofs.At.{At}
 use Rattle.floats.proofs.Ticks.{tick, cycle}
 use Rattle.block.specs.declared.Counts.{Counts}
-use Rattle.block.specs.Account.{Accounted, chain, usedBy}
+use Rattle.block.specs.Account.{Accounted, chain, usedBy, EachLimited}
 use Rattle.block.specs.Calls.{Call, refusal, run}
 use Rattle.ranges.proofs.Bools.{cond-both, by-test, either-way}
 use Rattle.block.proofs.Plays.{Few, few-none, Inside}
 use Rattle.block.proofs.Accounts.{OneSample, steps-one, steps-accounted, CallLaw, Untouched, call-accounts, chain-accounts}
-use Rattle.block.proofs.CallLaws.{few-most, not-done, refusal-untouched, refusal-law, run-law, run-few}
+use Rattle.block.proofs.CallLaws.{few-most, not-done, refusal-untouched, refusal-law, run-law, run-few, run-limited}
 use Rattle.block.proofs.Neither.{NeitherFallsNorCuts, neither-none, run-neither}
 use Rattle.states.specs.declared.string_synth.State.{State}
 use Rattle.string_synth.specs.Sample.{finish, sampleOf, sawsOf, sampleAt}
 use Rattle.states.specs.StringSynth.{newState, initState}
-use Rattle.string_synth.specs.Block.{gainsIn, stateIn, parametersIn, interpolators, rooms, renderOf, Arguments, callOf, usedOf, Phase32}
+use Rattle.string_synth.specs.Block.{gainsIn, stateIn, parametersIn, interpolators, rooms, renderOf, Arguments, callOf, usedOf, countsOf, Phase32}
 use Rattle.string_synth.specs.Private.{Valid}
 use Rattle.string_synth.proofs.Keeping.{reach-law, stepped-of, keeps}
 use Rattle.string_synth.proofs.Calls.{valid-of, of-valid}
@@ -116,6 +116,13 @@ pub chain-accounted : (s : State) (calls : List Arguments) → Phase32 s
     → (let r = chain callOf usedOf s calls in Accounted (2 ^ 152) (2 ^ 128) (s .phase) (r .cycles) (r .state .phase) (r .steps))
 unfolding tick
 chain-accounted s calls f = chain-accounts callOf usedOf Valid (λ (q : State). q .phase) (8 * cycle) (8 * tick) call-law phase-at s (start s f) calls
+
+-- "No sample counts two cycles, two falls or three rises": in an answered call from any state
+pub samples-limited : (s : State) (a : Arguments) → Phase32 s → callOf s a .number ≡ 0 → EachLimited (countsOf s a)
+samples-limited s a f e =
+    by-test (stateIn s)
+    (λ h. by-ways s a (λ (c : Call State). c .number ≡ 0 → EachLimited (countsOf s a)) not-done (run-limited sampleAt rooms Valid keeps _ refl s (a .buffer) (valid-of s f h)) e)
+    (λ h. absurd (call-refused s a h e))
 
 -- `new` and `init` are valid, and so is the state after an answered call
 pub new-valid : stateIn newState ≡ true

@@ -11,16 +11,16 @@ use lib.Ieee.{Float, lt, le, ofBits}
 use Rattle.floats.specs.F32.{zero32}
 use Rattle.floats.proofs.At.{At}
 use Rattle.floats.proofs.Ticks.{tick, cycle}
-use Rattle.block.specs.Account.{Accounted, chain, usedBy, Balanced}
+use Rattle.block.specs.Account.{Accounted, chain, usedBy, Balanced, EachLimited}
 use Rattle.block.specs.Calls.{Call, refusal, run}
 use Rattle.ranges.proofs.Bools.{cond-both, by-test, either-way}
 use Rattle.block.proofs.Plays.{Few, few-none, Inside}
 use Rattle.block.proofs.Accounts.{OneSample, steps-one, steps-accounted, CallLaw, Untouched, call-accounts, chain-accounts}
-use Rattle.block.proofs.CallLaws.{few-most, not-done, refusal-untouched, refusal-law, run-law, run-few, run-balance}
+use Rattle.block.proofs.CallLaws.{few-most, not-done, refusal-untouched, refusal-law, run-law, run-few, run-limited, run-balance}
 use Rattle.states.specs.declared.super_square.State.{State}
 use Rattle.super_square.specs.Sample.{sampleAt}
 use Rattle.states.specs.SuperSquare.{newState, initState}
-use Rattle.super_square.specs.Block.{stateIn, parametersIn, interpolators, rooms, renderOf, Arguments, callOf, usedOf, Phases32}
+use Rattle.super_square.specs.Block.{stateIn, parametersIn, interpolators, rooms, renderOf, Arguments, callOf, usedOf, countsOf, Phases32}
 use Rattle.super_square.specs.Private.{Valid}
 use Rattle.super_square.proofs.Keeping.{law-of, keeps}
 use Rattle.super_square.proofs.Calls.{valid-of, of-valid}
@@ -98,6 +98,13 @@ pub chain-accounted : (s : State) (calls : List Arguments) → Phases32 s
     → (let r = chain callOf usedOf s calls in Accounted (2 ^ 149) (2 ^ 125) (s .«master_phase») (r .cycles) (r .state .«master_phase») (r .steps))
 unfolding tick
 chain-accounted s calls f = chain-accounts callOf usedOf Valid (λ (q : State). q .«master_phase») cycle tick call-law master-at s (start s f) calls
+
+-- "No sample counts two cycles, two falls or three rises": in an answered call from any state
+pub samples-limited : (s : State) (a : Arguments) → Phases32 s → callOf s a .number ≡ 0 → EachLimited (countsOf s a)
+samples-limited s a f e =
+    by-test (stateIn s)
+    (λ h. by-ways s a (λ (c : Call State). c .number ≡ 0 → EachLimited (countsOf s a)) not-done (run-limited sampleAt rooms Valid keeps _ refl s (a .buffer) (valid-of s (f .0) (f .1) h)) e)
+    (λ h. absurd (call-refused s a h e))
 
 -- `new` and `init` are valid, and so is the state after an answered call
 pub new-valid : stateIn newState ≡ true

@@ -10,10 +10,12 @@ use Rattle.parameter_interpolator.specs.declared.ParameterInterpolator.{Paramet
 use Rattle.parameter_interpolator.specs.Interpolator.{newInterpolator}
 use Rattle.rooms.specs.declared.Room.{Room}
 use Rattle.rooms.specs.declared.Room.the-variants.{Frequency}
+use Rattle.rooms.specs.Steps.{stepsOf}
 use Rattle.ranges.specs.Targets.{clipped}
 use Rattle.ranges.specs.Ranges.{phaseIn, frequencyIn, parameterFrequencyIn, unitIn}
+use Rattle.block.specs.declared.Counts.{Counts}
 use Rattle.block.specs.Calls.{Call, refusal, run, gave}
-use Rattle.block.specs.Account.{usedBy}
+use Rattle.block.specs.Account.{usedBy, sampleCounts}
 use Rattle.states.specs.declared.super_square.State.{State}
 use Rattle.super_square.specs.declared.Rendered.{Rendered}
 use Rattle.super_square.specs.Sample.{sampleAt}
@@ -67,6 +69,10 @@ callOf s a = renderOf s (a .frequency) (a .shape) (a .buffer)
 
 abbrev pub usedOf : State → Arguments → List Float
 usedOf s a = usedBy (callOf s a) 0 (length (a .buffer)) (interpolators s (a .frequency) (a .shape) (length (a .buffer)))
+
+-- and the counts of each sample that it made, if it was answered
+abbrev pub countsOf : State → Arguments → List Counts
+countsOf s a = sampleCounts sampleAt s (stepsOf (length (a .buffer)) (interpolators s (a .frequency) (a .shape) (length (a .buffer)))) (a .buffer)
 
 -- the state's phases are binary32 values, as those of every `State` of a program are
 abbrev pub Phases32 : State → Type 0

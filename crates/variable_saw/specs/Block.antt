@@ -10,10 +10,12 @@ use Rattle.parameter_interpolator.specs.declared.ParameterInterpolator.{Paramet
 use Rattle.parameter_interpolator.specs.Interpolator.{newInterpolator}
 use Rattle.rooms.specs.declared.Room.{Room}
 use Rattle.rooms.specs.declared.Room.the-variants.{Frequency, PulseWidth, Waveshape}
+use Rattle.rooms.specs.Steps.{stepsOf}
 use Rattle.ranges.specs.Targets.{clipped, clampedWidth}
 use Rattle.ranges.specs.Ranges.{within, phaseIn, frequencyIn, parameterFrequencyIn, unitIn, waveshapeIn}
+use Rattle.block.specs.declared.Counts.{Counts}
 use Rattle.block.specs.Calls.{Call, refusal, run, gave}
-use Rattle.block.specs.Account.{usedBy}
+use Rattle.block.specs.Account.{usedBy, sampleCounts}
 use Rattle.states.specs.declared.variable_saw.State.{State}
 use Rattle.variable_saw.specs.declared.Rendered.{Rendered}
 use Rattle.variable_saw.specs.Sample.{sampleAt}
@@ -69,6 +71,10 @@ moving s a = interpolators s (a .frequency) (a .pw) (a .waveshape) (length (a .b
 
 abbrev pub usedOf : State → Arguments → List Float
 usedOf s a = usedBy (callOf s a) 0 (length (a .buffer)) (moving s a)
+
+-- and the counts of each sample that it made, if it was answered
+abbrev pub countsOf : State → Arguments → List Counts
+countsOf s a = sampleCounts sampleAt s (stepsOf (length (a .buffer)) (moving s a)) (a .buffer)
 
 -- the state's phase is a binary32 value, as that of every `State` of a program is
 abbrev pub Phase32 : State → Type 0

@@ -12,16 +12,16 @@ use Rattle.floats.specs.F32.{zero32}
 use Rattle.floats.proofs.At.{At}
 use Rattle.floats.proofs.Ticks.{tick, cycle}
 use Rattle.parameter_interpolator.specs.declared.ParameterInterpolator.{ParameterInterpolator}
-use Rattle.block.specs.Account.{Accounted, chain, usedBy, Balanced}
+use Rattle.block.specs.Account.{Accounted, chain, usedBy, Balanced, EachLimited}
 use Rattle.block.specs.Calls.{Call, refusal, run}
 use Rattle.ranges.proofs.Bools.{cond-both, by-test, either-way}
 use Rattle.block.proofs.Plays.{Few, few-none, Inside}
 use Rattle.block.proofs.Accounts.{OneSample, steps-one, steps-accounted, CallLaw, Untouched, call-accounts, chain-accounts}
-use Rattle.block.proofs.CallLaws.{few-most, not-done, refusal-untouched, refusal-law, run-law, run-few, run-balance}
+use Rattle.block.proofs.CallLaws.{few-most, not-done, refusal-untouched, refusal-law, run-law, run-few, run-limited, run-balance}
 use Rattle.states.specs.declared.variable_shape.State.{State}
 use Rattle.variable_shape.specs.Sample.{stepsAt, sampleAt}
 use Rattle.states.specs.VariableShape.{newState, initState}
-use Rattle.variable_shape.specs.Block.{stateIn, parametersIn, stepping, rooms, renderOf, countedPhase, countedStep, Arguments, callOf, movingOf, usedOf, Phases32}
+use Rattle.variable_shape.specs.Block.{stateIn, parametersIn, stepping, rooms, renderOf, countedPhase, countedStep, Arguments, callOf, movingOf, usedOf, countsOf, Phases32}
 use Rattle.variable_shape.specs.Private.{Valid}
 use Rattle.variable_shape.proofs.States.{valid-of}
 use Rattle.variable_shape.proofs.Loop.{paired}
@@ -115,6 +115,16 @@ module _ (sync : Bool) (s : State) (f : Phases32 s) where
       → (let r = chain (callOf sync) (usedOf sync) s calls in Accounted (2 ^ 149) (2 ^ 125) (countedPhase sync s) (r .cycles) (countedPhase sync (r .state)) (r .steps))
   unfolding tick
   chain-accounted calls = chain-accounts (callOf sync) (usedOf sync) Valid (countedPhase sync) cycle tick (call-law sync) (phase-at sync) s start calls
+
+  -- "No sample counts two cycles, two falls or three rises": in an answered call from any state
+  pub samples-limited : (a : Arguments) → callOf sync s a .number ≡ 0 → EachLimited (countsOf sync s a)
+  samples-limited a e =
+      by-test (stateIn s)
+      (λ h.
+      by-ways sync s a (λ (c : Call State). c .number ≡ 0 → EachLimited (countsOf sync s a)) not-done
+      (run-limited (sampleAt sync (a .phase-output)) (rooms (a .phase-output)) Valid (keeps sync (a .phase-output)) (steps sync s a) (paired (a .phase-output) (movingOf s a)) s (a .buffer)
+      (valid-of s h (f .0) (f .1))) e)
+      (λ h. absurd (call-refused sync s a h e))
 
   -- the state after an answered call is valid
   pub done-valid : (a : Arguments) → callOf sync s a .number ≡ 0 → stateIn (callOf sync s a .state) ≡ true

@@ -10,10 +10,12 @@ use Rattle.parameter_interpolator.specs.declared.ParameterInterpolator.{Paramet
 use Rattle.parameter_interpolator.specs.Interpolator.{newInterpolator}
 use Rattle.rooms.specs.declared.Room.{Room}
 use Rattle.rooms.specs.declared.Room.the-variants.{Frequency, PulseWidth, Waveshape, Sixteen}
+use Rattle.rooms.specs.Steps.{stepsOf}
 use Rattle.ranges.specs.Targets.{clipped, clampedWidth}
 use Rattle.ranges.specs.Ranges.{within, phaseIn, frequencyIn, parameterFrequencyIn, unitIn, waveshapeIn, sixteenIn}
+use Rattle.block.specs.declared.Counts.{Counts}
 use Rattle.block.specs.Calls.{Call, refusal, run, gave}
-use Rattle.block.specs.Account.{usedBy}
+use Rattle.block.specs.Account.{usedBy, sampleCounts}
 use Rattle.states.specs.declared.variable_shape.State.{State}
 use Rattle.variable_shape.specs.declared.Rendered.{Rendered}
 use Rattle.variable_shape.specs.declared.steps.Interpolators.{Interpolators}
@@ -86,6 +88,10 @@ movingOf s a = interpolatorsOf s (a .master-frequency) (a .frequency) (a .pw) (a
 
 abbrev pub usedOf : Bool → State → Arguments → List Float
 usedOf sync s a = usedBy (callOf sync s a) (countedStep sync) (length (a .buffer)) (stepping (a .phase-output) (movingOf s a))
+
+-- and the counts of each sample that it made, if it was answered
+abbrev pub countsOf : Bool → State → Arguments → List Counts
+countsOf sync s a = sampleCounts (sampleAt sync (a .phase-output)) s (stepsOf (length (a .buffer)) (stepping (a .phase-output) (movingOf s a))) (a .buffer)
 
 -- the state's phases are binary32 values, as those of every `State` of a program are
 abbrev pub Phases32 : State → Type 0
