@@ -1,15 +1,24 @@
 /* Navuloqu's tone generators for C and for whoever calls C. Link libnavuloqu.a (x86-64), which `rt staticlib navuloqu` writes.
  *
- * Each oscillator has two functions, `init` and `render`. They keep nothing between calls: the state is the caller's, an array of 32-bit
- * words in the order of the fields given below, floats as their bit patterns, bools as 0 or 1, whole numbers in two's complement.
- * `init` writes the words of the oscillator's initial state.
+ * Each oscillator has `init` and `render`, and the variable shape can have its master's phase set. They keep nothing between calls: the
+ * state is the caller's, an array of 32-bit words in the order of the fields given below, floats as their bit patterns, bools as 0 or 1,
+ * whole numbers in two's complement. `init` writes the words of the oscillator's initial state, which lies in its range.
  *
- * `render` writes `count` samples to `out` and six words to `result`:
+ * A parameter moves over the block from the value that the state holds to the one that the call asks for: a step is its value for one
+ * sample. The room of a step is the range in which it is answered: a frequency above 0 and at most 17/64 (string synth 17/32), a pulse
+ * width strictly between 0 and 1, the others as in the state.
+ *
+ * The state's ranges: phases from 0 to below 1 (the variable saw's to 81/64 where `high` is 1, the string synth's to below 8); frequencies
+ * 0 to 17/64 (string synth 17/32); pw and previous_pw 0 to 1; waveshape -1 to 2; phase_modulation and gains -16 to 16; the NES triangle's
+ * step 0 to 2^num_bits - 1, the string synth's segment 0 to 7; next_sample may hold any bits. What an answered call leaves lies in them,
+ * though a step may be too large for the next call's num_bits.
+ *
+ * `render` makes `count` samples in `out` and writes six words to `result`:
  *   result[0]  the answer, one of the numbers below
  *   result[1]  with NAVULOQU_DRIFT the index of the first sample with a step outside its room, else 0
  *   result[2]  cycles    result[3]  rises    result[4]  falls    result[5]  cuts
  * Whatever the answer but 0, the state's words and all samples are as they were, and the counts are 0.
- * A NaN that a call leaves in the state is the word 0x7fc00000.
+ * A NaN in the state after answer 0, which only next_sample can be, is the word 0x7fc00000, whatever word it was before.
  *
  * Pointers must be valid for what is said of them here, and must not overlap; a bool is 0 or 1; nothing else is asked of the caller:
  * every bit pattern of every float, whole number and state word is answered. */
@@ -25,7 +34,7 @@ extern "C" {
 #endif
 
 /* The answers. */
-#define NAVULOQU_DONE 0             /* rendered; also an empty block that passes, which changes nothing */
+#define NAVULOQU_DONE 0             /* rendered; also an empty block that passes, which changes nothing but a NaN's word */
 #define NAVULOQU_LONG_BLOCK 1       /* more than 4,096 samples */
 #define NAVULOQU_BAD_REGISTRATION 2 /* string synth only: the registration is not 7 long */
 #define NAVULOQU_BAD_STATE 3        /* the state lies outside its range, or a bool's word is neither 0 nor 1 */
@@ -80,7 +89,7 @@ void navuloqu_super_square_init(uint32_t state[NAVULOQU_SUPER_SQUARE_WORDS]);
 void navuloqu_super_square_render(
     uint32_t state[NAVULOQU_SUPER_SQUARE_WORDS], /* read; after answer 0 the state that the block left */
     float frequency,                             /* the master's, in cycles per sample: 0.000001 to 1 */
-    float shape,                                 /* 0 to 1: how much faster the slave runs */
+    float shape,                                 /* 0 to 1: the slave runs 0.51 to 5 times as fast as the master */
     float *out,                                  /* `count` samples, overwritten */
     size_t count,                                /* at most 4,096, else the answer is 1 */
     uint32_t result[6]);

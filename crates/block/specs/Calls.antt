@@ -30,6 +30,7 @@ gave answer s counts xs = record { number = numberOf answer; index = indexOf ans
 abbrev pub refusal : {S : Type 0} → ℕ → ℕ → S → List Float → Call S
 refusal number index s xs = record { number = number; index = index; state = s; counts = noCounts; samples = xs }
 
+-- an answered call: Done, with what was heard
 abbrev pub done : {S : Type 0} → Heard S → Call S
 done h = record { number = 0; index = 0; state = h .state; counts = h .counts; samples = h .samples }
 

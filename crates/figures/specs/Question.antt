@@ -69,7 +69,7 @@ sawFigure phase step width =
     ∷ toBits binary32 (u .state .phase)
     ∷ []
 
--- a low shape without sync: rises, falls, cycles and the phase of one sample with a steady width
+-- a low shape without sync: rises, falls, cycles and the phase of one sample with a steady width; its waveshape is 0, since P10 names none and no count depends on it
 abbrev shapeFigure : Float → Float → Float → List ℕ
 shapeFigure phase step width =
     let t = Shape.steadySample phase step width zero32 in

@@ -33,11 +33,11 @@ whole32 n = Ieee.ofInt binary32 (pos n)
 abbrev pub zero32 : Float
 zero32 = f32 0x0000_0000
 
--- 0.000001, the source's MIN_FREQUENCY
+-- 0.000001, the source's MIN_FREQUENCY: oscillator.rs, line 14
 abbrev pub minFrequency : Float
 minFrequency = f32 0x3586_37bd
 
--- 0.25, the source's MAX_FREQUENCY
+-- 0.25, the source's MAX_FREQUENCY: oscillator.rs, line 13
 abbrev pub maxFrequency : Float
 maxFrequency = f32 0x3e80_0000
 

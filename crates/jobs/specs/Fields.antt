@@ -23,13 +23,15 @@ usedBy kind i =
     || (between 24 27 i && eqb kind 1))
     || (between 28 55 i && eqb kind 5))
 
+-- "Unused bytes must be zero": byte i of a record of this kind
 abbrev pub byteFine : ℕ → ℕ → ℕ → Bool
 byteFine kind i byte = usedBy kind i || eqb byte 0
 
--- the bytes from byte i on
+-- the same of the bytes from byte i on
 unfoldable pub unusedZeroFrom : ℕ → ℕ → List ℕ → Bool
 unusedZeroFrom kind i [] = true
 unusedZeroFrom kind i (byte ∷ rest) = byteFine kind i byte && unusedZeroFrom kind (suc i) rest
 
+-- and of the whole record
 abbrev pub unusedZero : ℕ → List ℕ → Bool
 unusedZero kind p = unusedZeroFrom kind 0 p

@@ -13,6 +13,7 @@ use Rattle.jobs.specs.declared.Asked.{Asked}
 use Rattle.jobs.specs.declared.Asked.the-variants.{BadRecord, Play}
 use Rattle.jobs.specs.declared.Job.{Job}
 
+-- settings to play, or a malformed record
 abbrev pub playIf : Bool → Settings → Asked
 playIf good s = cond good (Play s) BadRecord
 
@@ -34,6 +35,7 @@ superSquareOf p = Play (SuperSquare (floatAt p 8) (floatAt p 16))
 abbrev pub stepCountIn : ℕ → Bool
 stepCountIn steps = (eqb (ones steps) 1 && leb 2 steps) && leb steps 65536
 
+-- frequency, bits
 unfoldable pub nesOf : List ℕ → Asked
 nesOf p = let steps = wordAt p 4 in playIf (stepCountIn steps) (NesTriangle (floatAt p 8) (trailingZeros 32 steps))
 

@@ -15,15 +15,15 @@ use Rattle.jobs.specs.declared.Settings.{Settings}
 use Rattle.jobs.specs.declared.Settings.the-variants.{VariableShape, VariableSaw, SuperSquare, NesTriangle, StringSynth}
 use Rattle.jobs.specs.declared.Asked.{Asked}
 use Rattle.jobs.specs.declared.Asked.the-variants.{BadRecord as Malformed, Play}
-use Rattle.states.specs.VariableShape as ShapeState
+use Rattle.states.specs.VariableShape as ShapeStart
 use Rattle.variable_shape.specs.Block as Shape
-use Rattle.states.specs.VariableSaw as SawState
+use Rattle.states.specs.VariableSaw as SawStart
 use Rattle.variable_saw.specs.Block as Saw
-use Rattle.states.specs.SuperSquare as SquareState
+use Rattle.states.specs.SuperSquare as SquareStart
 use Rattle.super_square.specs.Block as Square
-use Rattle.states.specs.NesTriangle as NesState
+use Rattle.states.specs.NesTriangle as NesStart
 use Rattle.nes_triangle.specs.Block as Nes
-use Rattle.states.specs.StringSynth as StringsState
+use Rattle.states.specs.StringSynth as StringStart
 use Rattle.string_synth.specs.Block as Strings
 use Rattle.states.specs.declared.variable_shape.State.{State as ShapeState}
 use Rattle.states.specs.declared.variable_saw.State.{State as SawState}
@@ -36,12 +36,13 @@ use Rattle.render.specs.declared.bank.Played.{Played}
 
 -- "Each kind starts from `init`"
 abbrev pub initBank : Bank
-initBank = record { shape = ShapeState.initState; saw = SawState.initState; «super_square» = SquareState.initState; nes = NesState.initState; string = StringsState.initState }
+initBank = record { shape = ShapeStart.initState; saw = SawStart.initState; «super_square» = SquareStart.initState; nes = NesStart.initState; string = StringStart.initState }
 
+-- what a line says of an answer and counts
 abbrev pub toldOf : Answer → Counts → Outcome
 toldOf answer counts = record { answer = numberOf answer; drift = indexOf answer; counts = counts }
 
--- what a call's line says
+-- and of a call
 abbrev pub outcomeOf : {S : Type 0} → Call S → Outcome
 outcomeOf c = record { answer = c .number; drift = c .index; counts = c .counts }
 
@@ -94,6 +95,7 @@ silence n = replicate n zero32
 abbrev pub refusedRecord : Bank → Played
 refusedRecord b = record { bank = b; outcome = toldOf BadRecord noCounts }
 
+-- what a record asks for: 7 where it is malformed, else the call
 abbrev pub askedPlayed : Bank → Asked → List Float → List Float → Played
 askedPlayed b Malformed registration xs = refusedRecord b
 askedPlayed b (Play settings) registration xs = settingsPlayed b settings registration xs

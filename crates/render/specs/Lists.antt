@@ -27,6 +27,7 @@ unfoldable pub numbered : ℕ → List Outcome → List ℕ
 numbered k [] = []
 numbered k (o ∷ rest) = lineOf k o ++ numbered (suc k) rest
 
+-- the lines of these records: "Each kind starts from `init`", and the index is the record's place in the list
 abbrev pub linesOf : List (List ℕ) → List ℕ
 linesOf records = numbered 0 (runOf initBank records)
 
@@ -37,7 +38,8 @@ textOf list =
     (linesOf (recordsFrom list 0 (length list / 64)))
     (56 ∷ 10 ∷ [])
 
--- what is returned and stands in the buffer afterwards: 0, or 9 where there is no room (a number that 01 leaves free), how many bytes were written, and the buffer
+-- What is returned and stands in the buffer afterwards: 0, or 9 where there is no room (a number that 01 leaves free), how many bytes were written, and the buffer.
+-- A list that is no job list is 0 here too: its text is the line `8`.
 pub record Handed : Type 0 where
   pub number : ℕ
   pub count : ℕ
@@ -50,6 +52,7 @@ written text d =
     (record { number = 0; count = length text; buffer = text ++ drop (length text) d })
     (record { number = 9; count = 0; buffer = d })
 
+-- the same of what the function answered, by cases: its number, its count, and both beside the buffer
 abbrev pub numberOf : Written → ℕ
 numberOf (Text n) = 0
 numberOf NoRoom = 9

@@ -15,6 +15,7 @@ unfoldable pub moved : List ParameterInterpolator → List ParameterInterpolator
 moved [] = []
 moved (p ∷ ps) = nextInterpolator p ∷ moved ps
 
+-- the value that each has reached
 unfoldable pub values : List ParameterInterpolator → List Float
 values [] = []
 values (p ∷ ps) = p .value ∷ values ps
@@ -25,7 +26,7 @@ unfolding moved values
 stepsOf zero ps = []
 stepsOf (suc n) ps = values (moved ps) ∷ stepsOf n (moved ps)
 
--- every step of a sample lies in its room
+-- every step of a sample lies in its room: a room for each step, in the same order (no call has more of one than of the other, and what has no partner would not be tested)
 unfoldable pub allIn : List Room → List Float → Bool
 allIn [] steps = true
 allIn (r ∷ rs) [] = true

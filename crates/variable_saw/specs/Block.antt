@@ -41,6 +41,7 @@ interpolators s frequency pw waveshape n =
     ∷ newInterpolator (s .waveshape) waveshape n
     ∷ []
 
+-- 01, "Rooms": the frequency above 0 and at most 17/64, the width strictly between 0 and 1, the waveshape -1 to 2
 abbrev pub rooms : List Room
 rooms = Frequency ∷ PulseWidth ∷ Waveshape ∷ []
 

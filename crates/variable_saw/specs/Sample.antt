@@ -1,4 +1,4 @@
--- One sample of the variable saw: variable_saw_oscillator.rs, lines 63 to 107, in its order. Assumes nothing.
+-- One sample of the variable saw: variable_saw_oscillator.rs, lines 63 to 110, in its order. Assumes nothing.
 use mathlib.Core.Bool.{true, false, not, _&&_, cond}
 use mathlib.Core.List.{List}
 use Prim.Native.Nat.{ℕ}
@@ -14,7 +14,7 @@ use Rattle.states.specs.declared.variable_saw.State.{State}
 use Rattle.variable_saw.specs.declared.sample.Wave.{Wave}
 use Rattle.variable_saw.specs.declared.sample.Sampled.{Sampled}
 
--- 0.2, the source's VARIABLE_SAW_NOTCH_DEPTH
+-- 0.2, the source's VARIABLE_SAW_NOTCH_DEPTH, line 11
 abbrev pub notchDepth : Float
 notchDepth = f32 0x3e4c_cccd
 
@@ -28,10 +28,11 @@ waveOf pw waveshape = record {
   «notch_amount» = one32 ⊖ waveshape;
 }
 
--- compute_naive_sample, lines 123 to 134
+-- a saw that stops at the width, lines 123 to 127
 abbrev pub notchSaw : Float → Float → Float
 notchSaw phase pw = cond (lt phase pw) phase (one32 ⊕ notchDepth)
 
+-- compute_naive_sample, lines 123 to 134: that saw and the triangle, mixed
 unfoldable pub naive : Float → Wave → Float
 naive phase w =
     notchSaw phase (w .pw) ⊗ w .«notch_amount»
@@ -79,7 +80,7 @@ edgeOf s frequency = record {
   falls = 0;
 }
 
--- The end of a sample, lines 97 to 107. The source stores frequency, width and waveshape as it drops their interpolators, and what it
+-- The end of a sample, lines 97 to 107, and 110 for what the next one starts with. The source stores frequency, width and waveshape as it drops their interpolators, and what it
 -- stores is the last step.
 unfoldable pub finish : Wave → Float → ℕ → Edge → Sampled
 finish w frequency cycles e = record {
