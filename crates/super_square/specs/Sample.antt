@@ -59,33 +59,6 @@ edgeOf s slaveFrequency = record {
   falls = 0;
 }
 
--- the end of a sample, lines 127 to 131: s has all that the state keeps but what the next sample starts with
-unfoldable pub finish : Edge → State → ℕ → ℕ → Sampled
-finish e s cycles cuts = record {
-  state = record {
-    «master_phase» = s .«master_phase»;
-    «slave_phase» = s .«slave_phase»;
-    «next_sample» = e .«next_sample» ⊕ level (s .«slave_phase»);
-    high = s .high;
-    «master_frequency» = s .«master_frequency»;
-    «slave_frequency» = s .«slave_frequency»;
-  };
-  sample = two32 ⊗ e .«this_sample» ⊖ one32;
-  counts = record { cycles = cycles; rises = e .rises; falls = e .falls; cuts = cuts };
-}
-
--- The phases, the side and the frequencies after a sample. The source stores the frequencies as it drops their interpolators, and what it
--- stores is the last step. `next_sample` is a place that `finish` fills.
-abbrev pub after : Float → Float → Bool → Float → Float → State
-after masterPhase slavePhase high masterFrequency slaveFrequency = record {
-  «master_phase» = masterPhase;
-  «slave_phase» = slavePhase;
-  «next_sample» = zero32;
-  high = high;
-  «master_frequency» = masterFrequency;
-  «slave_frequency» = slaveFrequency;
-}
-
 -- the edge of a sample whose master wrapped `time` samples ago, lines 77 to 120: crossed only where a transition falls before the reset
 unfoldable pub resetEdge : State → Float → Float → Edge
 resetEdge s slaveFrequency time =
@@ -93,18 +66,38 @@ resetEdge s slaveFrequency time =
     let e = cutEdge (level (wrapOnce reached)) time (edgeOf s slaveFrequency) in
     cond (transitionDuringReset (s .high) half32 reached) (crossed slaveFrequency e) e
 
+-- The state after a sample. What the next one starts with gets the square (line 127) and is stored after the last sample (line 131). The source stores
+-- the frequencies as it drops their interpolators, and what it stores is the last step.
+abbrev pub after : Edge → Float → Float → Bool → Float → Float → State
+after e masterPhase slavePhase high masterFrequency slaveFrequency = record {
+  «master_phase» = masterPhase;
+  «slave_phase» = slavePhase;
+  «next_sample» = e .«next_sample» ⊕ level slavePhase;
+  high = high;
+  «master_frequency» = masterFrequency;
+  «slave_frequency» = slaveFrequency;
+}
+
+-- the end of a sample: the state after it, what is put out (line 128), and the counts
+unfoldable pub finish : Edge → State → ℕ → ℕ → Sampled
+finish e s cycles cuts = record {
+  state = s;
+  sample = two32 ⊗ e .«this_sample» ⊖ one32;
+  counts = record { cycles = cycles; rises = e .rises; falls = e .falls; cuts = cuts };
+}
+
 -- with a reset, lines 73 to 93 and 122 to 125. 01 counts a cut where it finds `high` true just before clearing it.
 unfoldable pub resetSample : State → Float → Float → Float → Sampled
 resetSample s masterFrequency slaveFrequency masterPhase =
     let time = resetTime masterPhase masterFrequency in
     let e = resetEdge s slaveFrequency time in
-    finish e (after masterPhase (time ⊗ slaveFrequency) false masterFrequency slaveFrequency) 1 (oneIf (e .high))
+    finish e (after e masterPhase (time ⊗ slaveFrequency) false masterFrequency slaveFrequency) 1 (oneIf (e .high))
 
 -- without one, lines 95 to 120
 unfoldable pub plainSample : State → Float → Float → Float → Sampled
 plainSample s masterFrequency slaveFrequency masterPhase =
     let e = crossed slaveFrequency (edgeOf s slaveFrequency) in
-    finish e (after masterPhase (e .phase) (e .high) masterFrequency slaveFrequency) 0 0
+    finish e (after e masterPhase (e .phase) (e .high) masterFrequency slaveFrequency) 0 0
 
 unfoldable pub sampleOf : State → Float → Float → Sampled
 sampleOf s masterFrequency slaveFrequency =

@@ -2,7 +2,7 @@
 ghost use mathlib.Core.Path.{_≡_};
 ghost use Prim.Native.Nat.{_<_};
 ghost use Rattle.edges.proofs.Crossings.{Crossable};
-ghost use Rattle.super_square.specs.Sample.{level as levelOf, riseOf, fallOf, crossed, edgeOf, finish as finished, resetEdge, resetSample, plainSample, sampleOf};
+ghost use Rattle.super_square.specs.Sample.{level as levelOf, riseOf, fallOf, crossed, edgeOf, resetEdge, after as stateAfter, finish as finished, resetSample, plainSample, sampleOf};
 ghost use Rattle.super_square.specs.Private.{Ready};
 use crate::State;
 use block::Counts;
@@ -103,19 +103,33 @@ fn reset_edge(s: State, slave_frequency: f32, time: f32) -> Edge
     }
 }
 
-// The end of a sample: `s` has all but what the next sample starts with.
+// The state after a sample, with what the next one starts with.
+fn after(
+    e: Edge,
+    master_phase: f32,
+    slave_phase: f32,
+    high: bool,
+    master_frequency: f32,
+    slave_frequency: f32,
+) -> State
+    ensures { λ r. ⌜ r ≡ stateAfter e «master_phase» «slave_phase» high «master_frequency» «slave_frequency» ⌝ }
+{
+    State {
+        master_phase,
+        slave_phase,
+        next_sample: e.next_sample + level(slave_phase),
+        high,
+        master_frequency,
+        slave_frequency,
+    }
+}
+
+// The end of a sample: `s` is the state after it.
 fn finish(e: Edge, s: State, cycles: u32, cuts: u32) -> Sampled
     ensures { λ r. ⌜ r ≡ finished e s cycles cuts ⌝ }
 {
     Sampled {
-        state: State {
-            master_phase: s.master_phase,
-            slave_phase: s.slave_phase,
-            next_sample: e.next_sample + level(s.slave_phase),
-            high: s.high,
-            master_frequency: s.master_frequency,
-            slave_frequency: s.slave_frequency,
-        },
+        state: s,
         sample: 2.0 * e.this_sample - 1.0,
         counts: Counts {
             cycles,
@@ -133,15 +147,16 @@ fn reset_sample(s: State, master_frequency: f32, slave_frequency: f32, master_ph
 {
     let time = master_phase / master_frequency;
     let e = reset_edge(s, slave_frequency, time);
-    let after = State {
+    let slave_phase = time * slave_frequency;
+    let t = after(
+        e,
         master_phase,
-        slave_phase: time * slave_frequency,
-        next_sample: 0.0,
-        high: false,
+        slave_phase,
+        false,
         master_frequency,
         slave_frequency,
-    };
-    finish(e, after, 1, block::one_if(e.high))
+    );
+    finish(e, t, 1, block::one_if(e.high))
 }
 
 // Without one.
@@ -150,15 +165,15 @@ fn plain_sample(s: State, master_frequency: f32, slave_frequency: f32, master_ph
     ensures { λ r. ⌜ r ≡ plainSample s «master_frequency» «slave_frequency» «master_phase» ⌝ }
 {
     let e = cross(edge(s, slave_frequency), slave_frequency);
-    let after = State {
+    let t = after(
+        e,
         master_phase,
-        slave_phase: e.phase,
-        next_sample: 0.0,
-        high: e.high,
+        e.phase,
+        e.high,
         master_frequency,
         slave_frequency,
-    };
-    finish(e, after, 0, 0)
+    );
+    finish(e, t, 0, 0)
 }
 
 pub(crate) fn sample(s: State, master_frequency: f32, slave_frequency: f32) -> Sampled

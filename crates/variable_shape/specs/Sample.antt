@@ -69,6 +69,22 @@ resetEdge s w time =
     let e = cutEdge (naiveOf w (wrapOnce reached)) time (edgeOf s (w .«slave_frequency»)) in
     cond (transitionDuringReset (s .high) (w .pw) reached) (crossed w e) e
 
+-- The state after a sample, lines 183 to 191. What the next one starts with gets the waveform and is stored after the last sample (line 210). The source
+-- stores the parameters as it drops their interpolators, and what it stores is the last step.
+abbrev pub after : Waveform → Edge → Float → Float → Bool → Steps → State
+after w e masterPhase slavePhase high steps = record {
+  «master_phase» = masterPhase;
+  «slave_phase» = slavePhase;
+  «next_sample» = e .«next_sample» ⊕ naiveOf w slavePhase;
+  «previous_pw» = steps .pw;
+  high = high;
+  «master_frequency» = steps .«master_frequency»;
+  «slave_frequency» = steps .«slave_frequency»;
+  pw = steps .pw;
+  waveshape = steps .waveshape;
+  «phase_modulation» = steps .«phase_modulation»;
+}
+
 -- lines 197 and 198: what the sample is multiplied by, so that it is 0 where the phase wraps
 abbrev pub windowOf : Float → Float
 windowOf masterPhase = let w = four32 ⊗ (one32 ⊖ masterPhase) ⊗ masterPhase in w ⊗ (two32 ⊖ w)
@@ -88,38 +104,11 @@ outputOf sync phaseOutput masterPhase pw phaseModulation thisSample =
     (masterPhase ⊕ phaseModulation ⊗ thisSample))
     (two32 ⊗ thisSample ⊖ one32)
 
--- The phases, the side and the parameters after a sample. The source stores the parameters as it drops their interpolators, and what it stores is
--- the last step. `next_sample` is a place that `finish` fills.
-abbrev pub after : Steps → Float → Float → Bool → State
-after steps masterPhase slavePhase high = record {
-  «master_phase» = masterPhase;
-  «slave_phase» = slavePhase;
-  «next_sample» = zero32;
-  «previous_pw» = steps .pw;
-  high = high;
-  «master_frequency» = steps .«master_frequency»;
-  «slave_frequency» = steps .«slave_frequency»;
-  pw = steps .pw;
-  waveshape = steps .waveshape;
-  «phase_modulation» = steps .«phase_modulation»;
-}
-
--- the end of a sample, lines 183 to 207: s has all that the state keeps but what the next sample starts with
-unfoldable pub finish : Bool → Bool → Waveform → Edge → State → ℕ → ℕ → Sampled
-finish sync phaseOutput w e s cycles cuts = record {
-  state = record {
-    «master_phase» = s .«master_phase»;
-    «slave_phase» = s .«slave_phase»;
-    «next_sample» = e .«next_sample» ⊕ naiveOf w (s .«slave_phase»);
-    «previous_pw» = s .«previous_pw»;
-    high = s .high;
-    «master_frequency» = s .«master_frequency»;
-    «slave_frequency» = s .«slave_frequency»;
-    pw = s .pw;
-    waveshape = s .waveshape;
-    «phase_modulation» = s .«phase_modulation»;
-  };
-  sample = outputOf sync phaseOutput (s .«master_phase») (w .pw) (s .«phase_modulation») (e .«this_sample»);
+-- the end of a sample: the state after it, what is put out, and the counts
+unfoldable pub finish : Bool → Bool → Edge → State → ℕ → ℕ → Sampled
+finish sync phaseOutput e s cycles cuts = record {
+  state = s;
+  sample = outputOf sync phaseOutput (s .«master_phase») (s .pw) (s .«phase_modulation») (e .«this_sample»);
   counts = record { cycles = cycles; rises = e .rises; falls = e .falls; cuts = cuts };
 }
 
@@ -129,7 +118,7 @@ resetSample phaseOutput s steps masterPhase =
     let w = waveformOf steps (s .«previous_pw») in
     let time = resetTime masterPhase (steps .«master_frequency») in
     let e = resetEdge s w time in
-    finish true phaseOutput w e (after steps masterPhase (time ⊗ steps .«slave_frequency») false) 1 (oneIf (e .high))
+    finish true phaseOutput e (after w e masterPhase (time ⊗ steps .«slave_frequency») false steps) 1 (oneIf (e .high))
 
 -- 01's cycles where no reset is: none of the master's with sync; without, the slave's, which wraps where it falls
 abbrev pub freeCycles : Bool → ℕ → ℕ
@@ -140,7 +129,7 @@ unfoldable pub plainSample : Bool → Bool → State → Steps → Float → Sam
 plainSample sync phaseOutput s steps masterPhase =
     let w = waveformOf steps (s .«previous_pw») in
     let e = crossed w (edgeOf s (steps .«slave_frequency»)) in
-    finish sync phaseOutput w e (after steps masterPhase (e .phase) (e .high)) (freeCycles sync (e .falls)) 0
+    finish sync phaseOutput e (after w e masterPhase (e .phase) (e .high) steps) (freeCycles sync (e .falls)) 0
 
 -- lines 112 and 113: the master's phase moves only with sync
 abbrev pub masterStep : Bool → Float → Float → Float

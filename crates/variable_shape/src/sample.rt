@@ -117,14 +117,21 @@ fn reset_edge(s: State, w: Waveform, time: f32) -> Edge
     }
 }
 
-// The state after a sample but for what the next one starts with.
-fn after(steps: Steps, master_phase: f32, slave_phase: f32, high: bool) -> State
-    ensures { λ r. ⌜ r ≡ stateAfter steps «master_phase» «slave_phase» high ⌝ }
+// The state after a sample, with what the next one starts with.
+fn after(
+    w: Waveform,
+    e: Edge,
+    master_phase: f32,
+    slave_phase: f32,
+    high: bool,
+    steps: Steps,
+) -> State
+    ensures { λ r. ⌜ r ≡ stateAfter w e «master_phase» «slave_phase» high steps ⌝ }
 {
     State {
         master_phase,
         slave_phase,
-        next_sample: 0.0,
+        next_sample: e.next_sample + waveform::naive(w, slave_phase),
         previous_pw: steps.pw,
         high,
         master_frequency: steps.master_frequency,
@@ -135,27 +142,17 @@ fn after(steps: Steps, master_phase: f32, slave_phase: f32, high: bool) -> State
     }
 }
 
-// The end of a sample: `s` has all but what the next sample starts with.
-fn finish(
-    sync: bool,
-    phase_output: bool,
-    w: Waveform,
-    e: Edge,
-    s: State,
-    cycles: u32,
-    cuts: u32,
-) -> Sampled
-    ensures { λ r. ⌜ r ≡ finished sync «phase_output» w e s cycles cuts ⌝ }
+// The end of a sample: `s` is the state after it.
+fn finish(sync: bool, phase_output: bool, e: Edge, s: State, cycles: u32, cuts: u32) -> Sampled
+    ensures { λ r. ⌜ r ≡ finished sync «phase_output» e s cycles cuts ⌝ }
 {
-    let mut state = s;
-    state.next_sample = e.next_sample + waveform::naive(w, s.slave_phase);
     Sampled {
-        state,
+        state: s,
         sample: output::output(
             sync,
             phase_output,
             s.master_phase,
-            w.pw,
+            s.pw,
             s.phase_modulation,
             e.this_sample,
         ),
@@ -177,8 +174,8 @@ fn reset_sample(s: State, steps: Steps, phase_output: bool, master_phase: f32) -
     let time = master_phase / steps.master_frequency;
     let e = reset_edge(s, w, time);
     let slave_phase = time * steps.slave_frequency;
-    let t = after(steps, master_phase, slave_phase, false);
-    finish(true, phase_output, w, e, t, 1, block::one_if(e.high))
+    let t = after(w, e, master_phase, slave_phase, false, steps);
+    finish(true, phase_output, e, t, 1, block::one_if(e.high))
 }
 
 // The cycles of a sample without a reset. Without sync it is the slave's falls that count.
@@ -201,8 +198,8 @@ fn plain_sample(
 {
     let w = waveform::at(steps, s.previous_pw);
     let e = cross(edge(s, steps.slave_frequency), w);
-    let t = after(steps, master_phase, e.phase, e.high);
-    finish(sync, phase_output, w, e, t, free_cycles(sync, e.falls), 0)
+    let t = after(w, e, master_phase, e.phase, e.high, steps);
+    finish(sync, phase_output, e, t, free_cycles(sync, e.falls), 0)
 }
 
 // The master's step, which it takes only with sync.

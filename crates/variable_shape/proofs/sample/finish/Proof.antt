@@ -5,15 +5,12 @@ use borrow.Author.Needs.{needs}
 use Rattle.variable_shape.proofs.sample.finish.Statement.{statement}
 use Rattle.variable_shape.proofs.sample.finish.Tie as tie
 
-naive-requires : tie.Need-naive-requires
-naive-requires c κs = search needs
-
 output-requires : tie.Need-output-requires
 output-requires c κs = search needs
 
 returns : tie.Need-returns
 unfolding finish
-returns c = rw (c .before .before .naive .ensures, c .output .ensures) refl
+returns c = rw (c .output .ensures) refl
 
 pub finish-spec : {M : Type 1} → statement M
-finish-spec = tie.close (tie.spec naive-requires output-requires returns)
+finish-spec = tie.close (tie.spec output-requires returns)
