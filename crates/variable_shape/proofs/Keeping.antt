@@ -5,7 +5,7 @@ use mathlib.Core.Bool.{Bool, true, false, cond}
 use Prim.Native.Nat.{ℕ, _+_, _*_, _≤_}
 use mathlib.Core.List.{List}
 use native.Mathlib.Omega.{arith}
-use lib.ListN.{getD, List·getD-eq-default}
+use lib.ListN.{getD}
 use lib.Ieee.{Float, le}
 use Rattle.floats.specs.F32.{_⊕_, _⊖_, _⊘_, zero32, one32}
 use Rattle.floats.proofs.At.{At}
@@ -171,11 +171,11 @@ module _ (s : State) (steps : Steps) (h : Ready s steps) where
 -- the steps of a sample that passed the walk
 module _ (s : State) (v : Valid s) where
   -- phase modulation lies in its room, or is the state's own
-  modulation-step : (phaseOutput : Bool) (steps : List Float) → Inside (rooms phaseOutput) steps → sixteenIn (getD steps 4 (s .«phase_modulation»)) ≡ true
-  modulation-step true steps i = inside-at Unused (s .«phase_modulation») 4 (rooms true) steps (omega arith) i .room
-  modulation-step false steps i = rw (List·getD-eq-default steps (s .«phase_modulation») {n = 4} (omega (arith, i .long))) (modulation-in s (v .ranges))
+  modulation-step : (phaseOutput : Bool) (steps : List Float) → Inside (rooms phaseOutput) steps → sixteenIn (cond phaseOutput (getD steps 4 zero32) (s .«phase_modulation»)) ≡ true
+  modulation-step true steps i = inside-at Unused zero32 4 (rooms true) steps (omega arith) i .room
+  modulation-step false steps i = modulation-in s (v .ranges)
 
-  pub ready-of : (phaseOutput : Bool) (steps : List Float) → Inside (rooms phaseOutput) steps → Ready s (stepsAt s steps)
+  pub ready-of : (phaseOutput : Bool) (steps : List Float) → Inside (rooms phaseOutput) steps → Ready s (stepsAt phaseOutput s steps)
   ready-of phaseOutput steps i =
       let m = inside-at Unused zero32 0 (rooms phaseOutput) steps (omega arith) i in
       let f = inside-at Unused zero32 1 (rooms phaseOutput) steps (omega arith) i in
@@ -192,5 +192,5 @@ module _ (s : State) (v : Valid s) where
 
 pub keeps : (sync phaseOutput : Bool) → Keeps (sampleAt sync phaseOutput) (rooms phaseOutput) Valid
 keeps sync phaseOutput s steps x v i =
-    let l = sample-law s (stepsAt s steps) (ready-of s v phaseOutput steps i) phaseOutput sync in
+    let l = sample-law s (stepsAt phaseOutput s steps) (ready-of s v phaseOutput steps i) phaseOutput sync in
     record { ok = l .valid; few = record { cycles = l .cycles; rises = l .rises; falls = l .falls; cuts = l .cuts } }

@@ -39,7 +39,7 @@ moved-stepping false p = refl
 
 -- and their values are the sample's steps
 stepped : (phaseOutput : Bool) (s : State) (p : Interpolators) → p .«phase_modulation» .value ≡ s .«phase_modulation»
-    → stepsAt s (values (stepping phaseOutput (advanced phaseOutput p))) ≡ valuesOf (advanced phaseOutput p)
+    → stepsAt phaseOutput s (values (stepping phaseOutput (advanced phaseOutput p))) ≡ valuesOf (advanced phaseOutput p)
 unfolding values
 stepped true s p k = refl
 stepped false s p k = rw k
@@ -68,8 +68,8 @@ module _ (sync phaseOutput : Bool) (s₀ : State) (p₀ : Interpolators) (out₀
         (playing-end (sampleAt sync phaseOutput) (rooms phaseOutput) Valid (keeps sync phaseOutput) s₀ (stepping phaseOutput p₀) out₀ s (stepping phaseOutput p) c out i (t .playing) l)
 
     module _ (l : i < length out) (p' : Interpolators) (q : Steps) (at-p : p' ≡ advanced phaseOutput p) (at-q : q ≡ valuesOf p') where
-      steps-are : stepsAt s (values (moved (stepping phaseOutput p))) ≡ q
-      steps-are = ap (λ (ps : List ParameterInterpolator). stepsAt s (values ps)) (moved-stepping phaseOutput p) ∙ stepped phaseOutput s p (t .kept) ∙ ap valuesOf (sym at-p) ∙ sym at-q
+      steps-are : stepsAt phaseOutput s (values (moved (stepping phaseOutput p))) ≡ q
+      steps-are = ap (λ (ps : List ParameterInterpolator). stepsAt phaseOutput s (values ps)) (moved-stepping phaseOutput p) ∙ stepped phaseOutput s p (t .kept) ∙ ap valuesOf (sym at-p) ∙ sym at-q
 
       pub turning-ready : Ready s q
       turning-ready =

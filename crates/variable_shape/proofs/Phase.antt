@@ -33,8 +33,8 @@ phase-at true s v = (v .master .n, v .master .at)
 phase-at false s v = (v .slave .n, v .slave .at)
 
 law-of : (sync phaseOutput : Bool) (s : State) (steps : List Float) (x : Float) → Valid s → Inside (rooms phaseOutput) steps
-    → (let t = sampleAt sync phaseOutput s steps x in Law sync s (stepsAt s steps) (record { state = t .state; sample = t .sample; counts = t .counts }))
-law-of sync phaseOutput s steps x v i = sample-law s (stepsAt s steps) (ready-of s v phaseOutput steps i) phaseOutput sync
+    → (let t = sampleAt sync phaseOutput s steps x in Law sync s (stepsAt phaseOutput s steps) (record { state = t .state; sample = t .sample; counts = t .counts }))
+law-of sync phaseOutput s steps x v i = sample-law s (stepsAt phaseOutput s steps) (ready-of s v phaseOutput steps i) phaseOutput sync
 
 one-sample : (sync phaseOutput : Bool) (s : State) (steps : List Float) (x : Float) → Valid s → Inside (rooms phaseOutput) steps
     → (let t = sampleAt sync phaseOutput s steps x in OneSample cycle tick (countedPhase sync s) (getD steps (countedStep sync) zero32) (t .counts .cycles) (countedPhase sync (t .state)))

@@ -142,19 +142,19 @@ sampleOf sync phaseOutput s steps =
     (resetSample phaseOutput s steps (masterPhase ⊖ one32))
     (plainSample sync phaseOutput s steps masterPhase)
 
--- A sample's steps in the order of the interpolators. Phase modulation steps only where the phase is put out: else there are four, and the state
--- keeps its own.
-abbrev pub stepsAt : State → List Float → Steps
-stepsAt s steps = record {
+-- A sample's steps in the order of the interpolators. 01: "Phase modulation steps only when phase output is on." With it off there is no fifth step,
+-- and the state keeps its own.
+abbrev pub stepsAt : Bool → State → List Float → Steps
+stepsAt phaseOutput s steps = record {
   «master_frequency» = getD steps 0 zero32;
   «slave_frequency» = getD steps 1 zero32;
   pw = getD steps 2 zero32;
   waveshape = getD steps 3 zero32;
-  «phase_modulation» = getD steps 4 (s .«phase_modulation»);
+  «phase_modulation» = cond phaseOutput (getD steps 4 zero32) (s .«phase_modulation»);
 }
 
 -- for a block: what the buffer held is overwritten
 abbrev pub sampleAt : Bool → Bool → State → List Float → Float → Sample State
 sampleAt sync phaseOutput s steps x =
-    let t = sampleOf sync phaseOutput s (stepsAt s steps) in
+    let t = sampleOf sync phaseOutput s (stepsAt phaseOutput s steps) in
     record { state = t .state; sample = t .sample; counts = t .counts }
