@@ -43,6 +43,7 @@ interpolators s frequency shape n =
     ∷ newInterpolator (s .«slave_frequency») (clipped (frequency ⊗ factorOf shape)) n
     ∷ []
 
+-- 01, "Rooms": each frequency above 0 and at most 17/64
 abbrev pub rooms : List Room
 rooms = Frequency ∷ Frequency ∷ []
 

@@ -45,6 +45,7 @@ fallOf slaveFrequency e =
       falls = e .falls + 1;
     }
 
+-- the loop around the two crossings, lines 98 to 119
 abbrev pub crossed : Float → Edge → Edge
 crossed slaveFrequency e = crossings half32 (riseOf slaveFrequency) (fallOf slaveFrequency) e
 
@@ -66,8 +67,8 @@ resetEdge s slaveFrequency time =
     let e = cutEdge (level (wrapOnce reached)) time (edgeOf s slaveFrequency) in
     cond (transitionDuringReset (s .high) half32 reached) (crossed slaveFrequency e) e
 
--- The state after a sample. What the next one starts with gets the square (line 127) and is stored after the last sample (line 131). The source stores
--- the frequencies as it drops their interpolators, and what it stores is the last step.
+-- The state after a sample. What the next one starts with gets the square (line 127) and is stored after the last sample (line 131).
+-- The source stores the frequencies as it drops their interpolators, and what it stores is the last step.
 abbrev pub after : Edge → Float → Float → Bool → Float → Float → State
 after e masterPhase slavePhase high masterFrequency slaveFrequency = record {
   «master_phase» = masterPhase;
@@ -99,6 +100,7 @@ plainSample s masterFrequency slaveFrequency masterPhase =
     let e = crossed slaveFrequency (edgeOf s slaveFrequency) in
     finish e (after e masterPhase (e .phase) (e .high) masterFrequency slaveFrequency) 0 0
 
+-- lines 68 to 74, for the steps of both frequencies: the master's phase moves, and where it has come to 1 it wraps and resets the slave
 unfoldable pub sampleOf : State → Float → Float → Sampled
 sampleOf s masterFrequency slaveFrequency =
     let masterPhase = s .«master_phase» ⊕ masterFrequency in

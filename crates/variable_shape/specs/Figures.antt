@@ -1,4 +1,5 @@
--- The sample of 01's figure P10, whose steps are given: "shape without sync, low, 0.875, step 0.25, width 0.0625 steady". Assumes nothing.
+-- The sample of 01's figure P10, whose steps are given: "shape without sync, low, 0.875, step 0.25, width 0.0625 steady".
+-- 01 leaves the waveshape open; the table of figures takes 0. Assumes nothing.
 use mathlib.Core.Bool.{false}
 use lib.Ieee.{Float}
 use Rattle.floats.specs.F32.{zero32}

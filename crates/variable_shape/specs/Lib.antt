@@ -1,4 +1,4 @@
--- The variable shape, from the source's oscillator/variable_shape_oscillator.rs: its waveform, one sample, the whole call, and the master's phase set.
+-- The variable shape, from the source's oscillator/variable_shape_oscillator.rs: its waveform, one sample, the whole call, and the sample of 01's figure P10.
 pub mod Waveform
 pub mod Sample
 pub mod Block

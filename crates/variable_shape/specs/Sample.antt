@@ -1,4 +1,4 @@
--- One sample of the variable shape: variable_shape_oscillator.rs, lines 96 to 207, in its order. Assumes nothing.
+-- One sample of the variable shape: variable_shape_oscillator.rs, lines 95 to 210, in its order. Assumes nothing.
 use mathlib.Core.Bool.{Bool, true, false, _&&_, cond}
 use mathlib.Core.List.{List}
 use Prim.Native.Nat.{ℕ, _+_}
@@ -48,6 +48,7 @@ fallOf w e =
       falls = e .falls + 1;
     }
 
+-- the loop around the two crossings, lines 144 to 175
 abbrev pub crossed : Waveform → Edge → Edge
 crossed w e = crossings (w .pw) (riseOf w) (fallOf w) e
 
@@ -69,8 +70,8 @@ resetEdge s w time =
     let e = cutEdge (naiveOf w (wrapOnce reached)) time (edgeOf s (w .«slave_frequency»)) in
     cond (transitionDuringReset (s .high) (w .pw) reached) (crossed w e) e
 
--- The state after a sample, lines 183 to 191. What the next one starts with gets the waveform and is stored after the last sample (line 210). The source
--- stores the parameters as it drops their interpolators, and what it stores is the last step.
+-- The state after a sample, lines 183 to 191. What the next one starts with gets the waveform and is stored after the last sample (line 210).
+-- The source stores the parameters as it drops their interpolators, and what it stores is the last step.
 abbrev pub after : Waveform → Edge → Float → Float → Bool → Steps → State
 after w e masterPhase slavePhase high steps = record {
   «master_phase» = masterPhase;
@@ -112,7 +113,7 @@ finish sync phaseOutput e s cycles cuts = record {
   counts = record { cycles = cycles; rises = e .rises; falls = e .falls; cuts = cuts };
 }
 
--- with a reset, lines 115 to 139 and 178 to 181. 01 counts a cut where it finds `high` true just before clearing it.
+-- with a reset, lines 114 to 138 and 178 to 181. 01 counts a cut where it finds `high` true just before clearing it.
 unfoldable pub resetSample : Bool → State → Steps → Float → Sampled
 resetSample phaseOutput s steps masterPhase =
     let w = waveformOf steps (s .«previous_pw») in
@@ -135,6 +136,7 @@ plainSample sync phaseOutput s steps masterPhase =
 abbrev pub masterStep : Bool → Float → Float → Float
 masterStep sync masterPhase masterFrequency = cond sync (masterPhase ⊕ masterFrequency) masterPhase
 
+-- lines 112 to 115: with sync, a master's phase that has come to 1 wraps and resets the slave
 unfoldable pub sampleOf : Bool → Bool → State → Steps → Sampled
 sampleOf sync phaseOutput s steps =
     let masterPhase = masterStep sync (s .«master_phase») (steps .«master_frequency») in
