@@ -1,27 +1,28 @@
 -- The NES triangle's state as five words, in the order of its fields. Assumes nothing.
-use mathlib.Core.Bool.{cond}
 use mathlib.Core.List.{List, [], _∷_}
 use Prim.Native.Nat.{ℕ}
-use lib.Dec.{eqb, ltb}
+use lib.Dec.{eqb}
 use lib.ListN.{getD}
-use lib.Ieee.{Float, neg}
-use Rattle.floats.specs.F32.{f32, one32}
+use lib.Ieee.{Float}
+use Rattle.floats.specs.F32.{f32}
 use Rattle.block.specs.Counting.{oneIf}
 use Rattle.states.specs.declared.nes_triangle.State.{State}
 use Rattle.states.specs.NesTriangle.{initState}
 use Rattle.nes_triangle.specs.Block.{renderOf}
-use Rattle.words.specs.Face.{Face, faceOf, bitsOf, signedOf, unsignedOf}
+use Rattle.words.specs.Face.{Face, faceOf, bitsOf, phaseBeside, signedOf, unsignedOf}
 
--- a word for `ascending` that is neither 0 nor 1 puts the phase outside its range, so that the state is refused as 3: `bad-bool` in proofs/BadWords.antt
+-- the state of the words, field by field. A word for `ascending` that is neither 0 nor 1, and one for `step` that is a negative number, are
+-- refused as a bad state is: `bad-bool` and `negative-step` in proofs/BadWords.antt
 unfoldable pub stateOf : List ℕ → State
 stateOf w = record {
-  phase = cond (ltb 1 (getD w 3 0)) (neg one32) (f32 (getD w 0 0));
+  phase = phaseBeside (getD w 3 0) (getD w 0 0);
   «next_sample» = f32 (getD w 1 0);
   step = signedOf (getD w 2 0);
   ascending = eqb (getD w 3 0) 1;
   frequency = f32 (getD w 4 0);
 }
 
+-- the words of a state, field by field
 unfoldable pub wordsOf : State → List ℕ
 wordsOf s =
     bitsOf (s .phase)
@@ -31,8 +32,10 @@ wordsOf s =
     ∷ bitsOf (s .frequency)
     ∷ []
 
+-- what `init` leaves: the words of the oscillator's own initial state
 abbrev pub initWords : List ℕ
 initWords = wordsOf initState
 
+-- what `render` leaves: the oscillator's own call, on the state of the given words, put into words
 abbrev pub renderFace : List ℕ → Float → ℕ → List Float → Face
 renderFace w frequency numBits xs = faceOf wordsOf w (renderOf (stateOf w) frequency numBits xs)

@@ -9,6 +9,8 @@ use Rattle.states.specs.StringSynth.{initState}
 use Rattle.string_synth.specs.Block.{renderOf}
 use Rattle.words.specs.Face.{Face, faceOf, bitsOf, signedOf, unsignedOf}
 
+-- the state of the words, field by field. A word for `segment` that is a negative number is refused as a bad state is: `negative-segment` in
+-- proofs/BadWords.antt
 unfoldable pub stateOf : List ℕ → State
 stateOf w = record {
   phase = f32 (getD w 0 0);
@@ -21,6 +23,7 @@ stateOf w = record {
   «saw_1_gain» = f32 (getD w 7 0);
 }
 
+-- the words of a state, field by field
 unfoldable pub wordsOf : State → List ℕ
 wordsOf s =
     bitsOf (s .phase)
@@ -33,8 +36,10 @@ wordsOf s =
     ∷ bitsOf (s .«saw_1_gain»)
     ∷ []
 
+-- what `init` leaves: the words of the oscillator's own initial state
 abbrev pub initWords : List ℕ
 initWords = wordsOf initState
 
+-- what `render` leaves: the oscillator's own call, on the state of the given words, put into words
 abbrev pub renderFace : List ℕ → Float → List Float → Float → List Float → Face
 renderFace w frequency registration gain xs = faceOf wordsOf w (renderOf (stateOf w) frequency registration gain xs)

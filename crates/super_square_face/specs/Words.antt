@@ -1,21 +1,20 @@
 -- The super square's state as six words, in the order of its fields. Assumes nothing.
-use mathlib.Core.Bool.{cond}
 use mathlib.Core.List.{List, [], _∷_}
 use Prim.Native.Nat.{ℕ}
-use lib.Dec.{eqb, ltb}
+use lib.Dec.{eqb}
 use lib.ListN.{getD}
-use lib.Ieee.{Float, neg}
-use Rattle.floats.specs.F32.{f32, one32}
+use lib.Ieee.{Float}
+use Rattle.floats.specs.F32.{f32}
 use Rattle.block.specs.Counting.{oneIf}
 use Rattle.states.specs.declared.super_square.State.{State}
 use Rattle.states.specs.SuperSquare.{initState}
 use Rattle.super_square.specs.Block.{renderOf}
-use Rattle.words.specs.Face.{Face, faceOf, bitsOf}
+use Rattle.words.specs.Face.{Face, faceOf, bitsOf, phaseBeside}
 
--- a word for `high` that is neither 0 nor 1 puts the master's phase outside its range, so that the state is refused as 3: `bad-bool` in proofs/BadWords.antt
+-- the state of the words, field by field. A word for `high` that is neither 0 nor 1 is refused as a bad state is: `bad-bool` in proofs/BadWords.antt
 unfoldable pub stateOf : List ℕ → State
 stateOf w = record {
-  «master_phase» = cond (ltb 1 (getD w 3 0)) (neg one32) (f32 (getD w 0 0));
+  «master_phase» = phaseBeside (getD w 3 0) (getD w 0 0);
   «slave_phase» = f32 (getD w 1 0);
   «next_sample» = f32 (getD w 2 0);
   high = eqb (getD w 3 0) 1;
@@ -23,6 +22,7 @@ stateOf w = record {
   «slave_frequency» = f32 (getD w 5 0);
 }
 
+-- the words of a state, field by field
 unfoldable pub wordsOf : State → List ℕ
 wordsOf s =
     bitsOf (s .«master_phase»)
@@ -33,8 +33,10 @@ wordsOf s =
     ∷ bitsOf (s .«slave_frequency»)
     ∷ []
 
+-- what `init` leaves: the words of the oscillator's own initial state
 abbrev pub initWords : List ℕ
 initWords = wordsOf initState
 
+-- what `render` leaves: the oscillator's own call, on the state of the given words, put into words
 abbrev pub renderFace : List ℕ → Float → Float → List Float → Face
 renderFace w frequency shape xs = faceOf wordsOf w (renderOf (stateOf w) frequency shape xs)

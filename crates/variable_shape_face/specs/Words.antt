@@ -2,21 +2,21 @@
 use mathlib.Core.Bool.{Bool, cond}
 use mathlib.Core.List.{List, [], _∷_}
 use Prim.Native.Nat.{ℕ}
-use lib.Dec.{eqb, ltb}
+use lib.Dec.{eqb}
 use lib.ListN.{getD, set}
-use lib.Ieee.{Float, neg}
-use Rattle.floats.specs.F32.{f32, one32}
+use lib.Ieee.{Float}
+use Rattle.floats.specs.F32.{f32}
 use Rattle.block.specs.Counting.{oneIf}
 use Rattle.states.specs.declared.variable_shape.State.{State}
 use Rattle.states.specs.VariableShape.{initState}
 use Rattle.variable_shape.specs.Block.{renderOf}
 use Rattle.master_phase.specs.MasterPhase.{Setting, masterPhaseSet}
-use Rattle.words.specs.Face.{Face, faceOf, bitsOf}
+use Rattle.words.specs.Face.{Face, faceOf, bitsOf, phaseBeside}
 
--- a word for `high` that is neither 0 nor 1 puts the master's phase outside its range, so that the state is refused as 3: `bad-bool` in proofs/BadWords.antt
+-- the state of the words, field by field. A word for `high` that is neither 0 nor 1 is refused as a bad state is: `bad-bool` in proofs/BadWords.antt
 unfoldable pub stateOf : List ℕ → State
 stateOf w = record {
-  «master_phase» = cond (ltb 1 (getD w 4 0)) (neg one32) (f32 (getD w 0 0));
+  «master_phase» = phaseBeside (getD w 4 0) (getD w 0 0);
   «slave_phase» = f32 (getD w 1 0);
   «next_sample» = f32 (getD w 2 0);
   «previous_pw» = f32 (getD w 3 0);
@@ -28,6 +28,7 @@ stateOf w = record {
   «phase_modulation» = f32 (getD w 9 0);
 }
 
+-- the words of a state, field by field
 unfoldable pub wordsOf : State → List ℕ
 wordsOf s =
     bitsOf (s .«master_phase»)
@@ -42,9 +43,11 @@ wordsOf s =
     ∷ bitsOf (s .«phase_modulation»)
     ∷ []
 
+-- what `init` leaves: the words of the oscillator's own initial state
 abbrev pub initWords : List ℕ
 initWords = wordsOf initState
 
+-- what `render` leaves: the oscillator's own call, on the state of the given words, put into words
 abbrev pub renderFace : List ℕ → Float → Float → Float → Float → Float → Bool → Bool → List Float → Face
 renderFace w masterFrequency frequency pw waveshape phaseModulation sync phaseOutput xs = faceOf wordsOf w (renderOf (stateOf w) masterFrequency frequency pw waveshape phaseModulation sync phaseOutput xs)
 
@@ -57,5 +60,6 @@ pub record SetFace : Type 0 where
 unfoldable pub setOf : List ℕ → Setting → SetFace
 setOf w s = record { words = cond (eqb (s .number) 0) (set w 0 (bitsOf (s .state .«master_phase»))) w; number = s .number }
 
+-- what `set_master_phase` leaves: the oscillator's own call, on the state of the given words, put into words
 abbrev pub setFace : List ℕ → Float → SetFace
 setFace w phase = setOf w (masterPhaseSet (stateOf w) phase)

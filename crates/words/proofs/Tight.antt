@@ -1,21 +1,18 @@
 -- The contract of each public function determines its outcome: two that satisfy it coincide. Assumes nothing.
 use mathlib.Core.Path.{_≡_}
-use mathlib.Core.Bool.{cond}
 use mathlib.Core.List.{List}
 use Prim.Native.Nat.{ℕ}
-use lib.Dec.{ltb}
 use lib.IntN.{ℤ}
-use lib.Ieee.{Float, neg}
-use Rattle.floats.specs.F32.{f32, one32}
+use lib.Ieee.{Float}
 use Rattle.floats.proofs.Contracts.{coincide}
 use Rattle.block.specs.declared.Answer.{Answer}
 use Rattle.block.specs.declared.Counts.{Counts}
-use Rattle.words.specs.Face.{resultWords, signedOf, unsignedOf}
+use Rattle.words.specs.Face.{resultWords, phaseBeside, signedOf, unsignedOf}
 
 pub result-of : (a : Answer) (c : Counts) (r q : List ℕ) → r ≡ resultWords a c → q ≡ resultWords a c → r ≡ q
 result-of a c r q h k = coincide h k
 
-pub phase-beside : (flag bits : ℕ) (r q : Float) → r ≡ cond (ltb 1 flag) (neg one32) (f32 bits) → q ≡ cond (ltb 1 flag) (neg one32) (f32 bits) → r ≡ q
+pub phase-beside : (flag bits : ℕ) (r q : Float) → r ≡ phaseBeside flag bits → q ≡ phaseBeside flag bits → r ≡ q
 phase-beside flag bits r q h k = coincide h k
 
 pub signed : (w : ℕ) (r q : ℤ) → r ≡ signedOf w → q ≡ signedOf w → r ≡ q

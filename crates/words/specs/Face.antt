@@ -1,10 +1,11 @@
 -- What a call from another language leaves, for any oscillator: the state's words, the six words of the result, and the samples. Assumes nothing.
 use mathlib.Core.Bool.{cond}
 use mathlib.Core.List.{List, [], _∷_}
-use Prim.Native.Nat.{ℕ}
+use Prim.Native.Nat.{ℕ, _-_}
 use lib.Dec.{eqb, ltb}
 use lib.IntN.{ℤ, pos, negsuc}
-use lib.Ieee.{Float, binary32, toBits}
+use lib.Ieee.{Float, binary32, neg, toBits}
+use Rattle.floats.specs.F32.{f32, one32}
 use Rattle.block.specs.declared.Answer.{Answer}
 use Rattle.block.specs.declared.Counts.{Counts}
 use Rattle.block.specs.Answers.{numberOf, indexOf}
@@ -23,7 +24,8 @@ resultOf c = c .number ∷ c .index ∷ c .counts .cycles ∷ c .counts .rises �
 abbrev pub resultWords : Answer → Counts → List ℕ
 resultWords answer counts = numberOf answer ∷ indexOf answer ∷ counts .cycles ∷ counts .rises ∷ counts .falls ∷ counts .cuts ∷ []
 
--- the given words are kept unless the answer is 0
+-- The given words are kept unless the answer is 0. An answered call stores the state's words, an empty block's too: a NaN among them is then
+-- 7fc00000, whatever pattern it came with.
 unfoldable pub faceOf : {S : Type 0} → (S → List ℕ) → List ℕ → Call S → Face
 faceOf wordsOf given c = record { words = cond (eqb (c .number) 0) (wordsOf (c .state)) given; result = resultOf c; samples = c .samples }
 
@@ -35,11 +37,16 @@ refusedFace number given xs = record { words = given; result = number ∷ 0 ∷ 
 abbrev pub bitsOf : Float → ℕ
 bitsOf x = toBits binary32 x
 
--- the whole number of a word in two's complement; every word from 2^31 up stands for a negative number, which no range has, and so for -1: `negative-step` and `negative-segment` in the proofs/BadWords.antt of the two faces
-abbrev pub signedOf : ℕ → ℤ
-signedOf w = cond (ltb w 0x8000_0000) (pos w) (negsuc 0)
+-- A phase beside a word for a bool. A word that is neither 0 nor 1 stands for no state: it puts the phase outside its range, so that the
+-- oscillator's own checks refuse it as a bad state, in their own order. See `bad-bool` in the faces' proofs/BadWords.antt.
+abbrev pub phaseBeside : ℕ → ℕ → Float
+phaseBeside flag bits = cond (ltb 1 flag) (neg one32) (f32 bits)
 
--- and the word of a whole number; a negative one, which no answered call leaves, is the word of -1
+-- a word as a whole number in two's complement: `negsuc n` is -1 - n, so that 0xffff_ffff is -1 and 0x8000_0000 is -2^31
+abbrev pub signedOf : ℕ → ℤ
+signedOf w = cond (ltb w 0x8000_0000) (pos w) (negsuc (0xffff_ffff - w))
+
+-- and a whole number as a word
 abbrev pub unsignedOf : ℤ → ℕ
 unsignedOf (pos n) = n
-unsignedOf (negsuc n) = 0xffff_ffff
+unsignedOf (negsuc n) = 0xffff_ffff - n

@@ -1,6 +1,5 @@
 -- `words::signed` meets its contract. Assumes nothing.
-use borrow.Author.Tests.{le-ltb}
-use Rattle.words.proofs.Words.{signed-of-low}
+use Rattle.words.proofs.Words.{signed-of-low, high-fits, signed-of-high}
 use borrow.Author.Needs.{needs}
 use Rattle.words.proofs.signed.Statement.{statement}
 use Rattle.words.proofs.signed.Tie as tie
@@ -8,11 +7,21 @@ use Rattle.words.proofs.signed.Tie as tie
 cast-result : tie.Need-cast-result
 cast-result c = search needs
 
+sub-result : tie.Need-sub-result
+sub-result c = search needs
+
+cast-result-2 : tie.Need-cast-result-2
+cast-result-2 c = search needs
+
+sub-result-2 : tie.Need-sub-result-2
+sub-result-2 c = high-fits _ (c .if1 .left)
+
 returns : tie.Need-returns
 returns c = signed-of-low _ (c .if1 .taken)
 
 returns-2 : tie.Need-returns-2
-returns-2 c = rw (le-ltb _ _ (c .if1 .left))
+returns-2 c = signed-of-high _ (c .if1 .left)
 
 pub signed-spec : {M : Type 1} → statement M
-signed-spec = tie.close (tie.spec cast-result returns returns-2)
+signed-spec =
+    tie.close (tie.spec cast-result sub-result cast-result-2 sub-result-2 returns returns-2)
