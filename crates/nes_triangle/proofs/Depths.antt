@@ -8,7 +8,7 @@ use borrow.Author.Tests.{leb-true, ltb-true, eqb-true}
 use mir.Syntax.{w32}
 use mir.Val.{SFits, toZ, ofZ}
 use mir.Facts.{toZ-ofZ}
-use lib.Dec.{leb, ltb, eqb, lit<}
+use lib.Dec.{T, leb, ltb, eqb, lit<}
 use lib.IntN.{ℤ, pos, negsuc, natAbs}
 use lib.Pow.{pow-mono, shl-exact}
 use lib.Signed.{nonNeg, ltZ}
@@ -40,8 +40,8 @@ pub top-some : (n top : ℕ) → 2 ≤ n → top ≡ topOf n → 1 ≤ top
 top-some n top h e = rw e (top-most n 1 (omega arith))
 
 -- ---- a state's step, read back from its bits, and the test `step < 0`
-pub not-negative : (z : ℤ) → ltZ z (pos 0) ≡ false → nonNeg z ≡ true
-not-negative (pos n) h = refl
+pub not-negative : (z : ℤ) → ltZ z (pos 0) ≡ false → T (nonNeg z)
+not-negative (pos n) h = tt
 not-negative (negsuc n) h = absurd (true≢false h)
 
 pub negative : (bits : ℕ) (z : ℤ) → SFits w32 z → ltZ (toZ w32 (ofZ w32 z)) (pos 0) ≡ true → false ≡ stepIn bits z
@@ -51,10 +51,10 @@ negative bits z f h = go z (rw (toZ-ofZ f) at h)
     go (pos n) h = absurd (omega (arith, ltb-true n 0 h))
     go (negsuc n) h = refl
 
-pub step-in-is : (bits : ℕ) (z : ℤ) (step tested n : ℕ) → SFits w32 z → ltZ (toZ w32 (ofZ w32 z)) (pos 0) ≡ false → step ≡ natAbs (toZ w32 (ofZ w32 z)) → tested ≡ testedBits bits → n ≡ 2 ^ tested
-    → ltb step n ≡ stepIn bits z
-step-in-is bits z step tested n f h at-step at-tested at-n = go z (rw (toZ-ofZ f) at h) (rw (toZ-ofZ f) at at-step)
+pub step-in-is : (bits : ℕ) (z : ℤ) (tested n : ℕ) → SFits w32 z → ltZ (toZ w32 (ofZ w32 z)) (pos 0) ≡ false → tested ≡ testedBits bits → n ≡ 2 ^ tested
+    → ltb (natAbs (toZ w32 (ofZ w32 z))) n ≡ stepIn bits z
+step-in-is bits z tested n f h at-tested at-n = rw (toZ-ofZ f) (go z (rw (toZ-ofZ f) at h))
   where
-    go : (z : ℤ) → ltZ z (pos 0) ≡ false → step ≡ natAbs z → ltb step n ≡ stepIn bits z
-    go (pos k) h e = rw (at-n, at-tested, e)
-    go (negsuc k) h e = absurd (true≢false h)
+    go : (z : ℤ) → ltZ z (pos 0) ≡ false → ltb (natAbs z) n ≡ stepIn bits z
+    go (pos k) h = rw (at-n, at-tested)
+    go (negsuc k) h = absurd (true≢false h)

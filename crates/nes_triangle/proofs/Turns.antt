@@ -7,10 +7,9 @@ use native.Mathlib.Nat.{le-trans, lt-of-lt-of-le, mul-assoc, mul-comm, mul-le-mu
 use native.Mathlib.Omega.{arith}
 use borrow.Author.Tests.{leb-true, leb-false, ne-eqb}
 use mir.Syntax.{w32}
-use mir.Val.{SFits, toZ, ofZ}
-use mir.Facts.{toZ-ofZ}
+use mir.Val.{SFits, ofZ}
 use lib.Dec.{leb, eqb, lit≤}
-use lib.IntN.{natAbs}
+use lib.IntN.{ℤ, pos, negsuc}
 use lib.Pow.{pow-pos}
 use lib.Ieee.{Float}
 use Rattle.floats.specs.F32.{whole32, _⊕_, _⊗_}
@@ -26,9 +25,14 @@ use Rattle.states.specs.declared.nes_triangle.State.{State}
 use Rattle.nes_triangle.specs.declared.depth.Depth.{Depth}
 use Rattle.nes_triangle.specs.declared.sample.Turn.{Turn}
 use Rattle.nes_triangle.specs.Depth.{depthOf}
-use Rattle.nes_triangle.specs.Sample.{wrapPhase, wrapStep, turnOf}
+use Rattle.nes_triangle.specs.Sample.{isStep, wrapPhase, wrapStep, turnOf}
 use Rattle.nes_triangle.specs.Private.{Ready}
 use Rattle.nes_triangle.proofs.Depths.{few-steps, top-most}
+
+-- a machine holds a negative step as bits above those of every whole part
+pub is-step : (whole : ℕ) (step : ℤ) → whole ≤ 131072 → SFits w32 step → eqb whole (ofZ w32 step) ≡ isStep whole step
+is-step whole (pos n) h f = refl
+is-step whole (negsuc n) h f = ne-eqb whole (ofZ w32 (negsuc n)) (λ e. omega (arith, f .sfits))
 
 uncapped : (n c : ℕ) → n < c → min n c ≡ n
 uncapped n c h = omega arith
@@ -71,8 +75,8 @@ step-under : (whole n : ℕ) (wrap : Bool) → wrap ≡ leb n whole → whole < 
 step-under whole n true e h = omega (arith, leb-true n whole (sym e))
 step-under whole n false e h = omega (arith, leb-false n whole (sym e))
 
-pub wrap-enough : (whole step n : ℕ) → (not (eqb whole step) && leb n whole) ≡ true → n ≤ whole
-wrap-enough whole step n h = leb-true n whole (and-both (not (eqb whole step)) (leb n whole) h .1)
+pub wrap-enough : (changed : Bool) (whole n : ℕ) → (changed && leb n whole) ≡ true → n ≤ whole
+wrap-enough changed whole n h = leb-true n whole (and-both changed (leb n whole) h .1)
 
 -- what a sample does to a phase of a units with a step of b, and to the state's step
 pub record Turned (d : Depth) (s : State) (frequency : Float) (bits a b : ℕ) : Type 0 where
@@ -87,12 +91,12 @@ module _ (d : Depth) (s : State) (frequency : Float) (h : Ready d s frequency) w
   low = omega (arith, sum .top, tick-pos)
 
   -- from the whole part, the old step and the number of steps
-  module _ (whole old n : ℕ) (at-whole : whole ≡ sum .n * 2 ^ h .bits / 2 ^ 149) (at-old : old ≡ h .valid .step .n) (at-n : n ≡ 2 ^ h .bits) where
+  module _ (whole n : ℕ) (old : ℤ) (at-whole : whole ≡ sum .n * 2 ^ h .bits / 2 ^ 149) (at-old : old ≡ pos (h .valid .step .n)) (at-n : n ≡ 2 ^ h .bits) where
     abbrev test : Bool
-    test = not (eqb whole old) && leb n whole
+    test = not (isStep whole old) && leb n whole
 
     test-is : test ≡ leb n whole
-    test-is = wraps whole old n (rw (at-n, at-old) (h .valid .step .under))
+    test-is = rw at-old (wraps whole (h .valid .step .n) n (rw at-n (h .valid .step .under)))
 
     turned-phase : Step (wrapPhase (s .phase ⊕ frequency) test) (oneIf test) (h .valid .phase .n) (h .some .n) cycle tick cycle
     turned-phase = turn-by turn-1 sum test (test-is ∙ rw (at-n, at-whole) (whole-pow (sum .n) (h .bits)) ∙ ap (λ (k : ℕ). leb k (sum .n)) (sym cycle-is))
@@ -106,11 +110,10 @@ module _ (d : Depth) (s : State) (frequency : Float) (h : Ready d s frequency) w
       let whole = wholePart ((s .phase ⊕ frequency) ⊗ d .«num_steps_f») in
       let at-whole : whole ≡ sum .n * 2 ^ h .bits / 2 ^ 149 =
       ap (λ (e : Depth). wholePart ((s .phase ⊕ frequency) ⊗ e .«num_steps_f»)) (h .depth) ∙ whole-is (h .bits) (h .bits-in .high) (sum .at) low in
-      let at-old : natAbs (s .step) ≡ h .valid .step .n = ap natAbs (h .valid .step .is) in
       let at-n : d .«num_steps» ≡ 2 ^ h .bits = ap (λ (e : Depth). e .«num_steps») (h .depth) in
       record {
-        phase = turned-phase whole (natAbs (s .step)) (d .«num_steps») at-whole at-old at-n;
-        step = turned-step whole (natAbs (s .step)) (d .«num_steps») at-whole at-old at-n;
+        phase = turned-phase whole (d .«num_steps») (s .step) at-whole (h .valid .step .is) at-n;
+        step = turned-step whole (d .«num_steps») (s .step) at-whole (h .valid .step .is) at-n;
       }
 
   pub finishable : (t : Turn) → t ≡ turnOf d s frequency → (t .«next_step» ≤ d .top) × (t .«next_step» < 65536)
@@ -119,14 +122,11 @@ module _ (d : Depth) (s : State) (frequency : Float) (h : Ready d s frequency) w
       let u : t .«next_step» < 2 ^ h .bits = rw e (turned .step) in
       (subst (λ (e : Depth). t .«next_step» ≤ e .top) (sym (h .depth)) (top-most (2 ^ h .bits) (t .«next_step») u), omega (arith, few-steps (h .bits) (h .bits-in .high)))
 
-  -- 32 bits hold the state's step
-  pub step-fits : SFits w32 (s .step)
-  step-fits = rw (h .valid .step .is) (record { sfits = omega (arith, few-steps (h .bits) (h .bits-in .high), h .valid .step .under) })
-
-  -- the turn, from its parts
-  pub advanced : (whole old : ℕ) (phase : Float) (next : ℕ) → whole ≡ wholePart ((s .phase ⊕ frequency) ⊗ d .«num_steps_f») → old ≡ natAbs (toZ w32 (ofZ w32 (s .step)))
-      → (let wrap = not (eqb whole old) && leb (d .«num_steps») whole in
-      phase ≡ wrapPhase (s .phase ⊕ frequency) wrap → next ≡ wrapStep whole (d .«num_steps») wrap
-      → record { reached = s .phase ⊕ frequency; phase = phase; «next_step» = next; changed = not (eqb whole old); wrap = wrap } ≡ turnOf d s frequency)
-  unfolding turnOf
-  advanced whole old phase next at-whole at-old at-phase at-next = rw (at-phase, at-next, at-old, at-whole, toZ-ofZ step-fits)
+-- the turn, from its parts
+pub advanced : (d : Depth) (s : State) (frequency : Float) (whole : ℕ) (same : Bool) (phase : Float) (next : ℕ)
+    → whole ≡ wholePart ((s .phase ⊕ frequency) ⊗ d .«num_steps_f») → same ≡ isStep whole (s .step)
+    → (let wrap = not same && leb (d .«num_steps») whole in
+    phase ≡ wrapPhase (s .phase ⊕ frequency) wrap → next ≡ wrapStep whole (d .«num_steps») wrap
+    → record { reached = s .phase ⊕ frequency; phase = phase; «next_step» = next; changed = not same; wrap = wrap } ≡ turnOf d s frequency)
+unfolding turnOf
+advanced d s frequency whole same phase next at-whole at-same at-phase at-next = rw (at-phase, at-next, at-same, at-whole)

@@ -1,11 +1,10 @@
--- One sample of the NES triangle: nes_triangle_oscillator.rs, lines 54 to 137, in its order. Steps are whole numbers from 0 up: the source's
--- `i32` is never negative there, since a call tests the state's step; and no difference of them goes below 0: a wrap has come to the number of steps, and a step is at
--- most the top. Assumes nothing.
-use mathlib.Core.Bool.{Bool, not, _&&_, _||_, cond}
+-- One sample of the NES triangle: nes_triangle_oscillator.rs, lines 54 to 140, in its order. A new step is a whole part, and so a whole number from
+-- 0 up, and no difference of steps goes below 0: a wrap has come to the number of steps, and a step is at most the top. Assumes nothing.
+use mathlib.Core.Bool.{Bool, false, not, _&&_, _||_, cond}
 use mathlib.Core.List.{List}
 use Prim.Native.Nat.{ℕ, _-_}
 use lib.Dec.{ltb, leb, eqb}
-use lib.IntN.{pos, natAbs}
+use lib.IntN.{ℤ, pos, negsuc}
 use lib.ListN.{getD}
 use lib.Ieee.{Float, lt, le, ne, neg}
 use Rattle.floats.specs.F32.{whole32, _⊕_, _⊖_, _⊗_, _⊘_, zero32, half32, one32, two32, four32}
@@ -22,6 +21,11 @@ use Rattle.nes_triangle.specs.declared.sample.Samples.{Samples}
 use Rattle.nes_triangle.specs.declared.sample.Sampled.{Sampled}
 use Rattle.nes_triangle.specs.Depth.{depthOf}
 
+-- whether a whole part is the step, line 80. The source's step is an i32: a whole part never is a negative one.
+abbrev pub isStep : ℕ → ℤ → Bool
+isStep whole (pos step) = eqb whole step
+isStep whole (negsuc n) = false
+
 -- line 84
 abbrev pub wrapPhase : Float → Bool → Float
 wrapPhase phase wrap = cond wrap (phase ⊖ one32) phase
@@ -35,7 +39,7 @@ unfoldable pub turnOf : Depth → State → Float → Turn
 turnOf d s frequency =
     let reached = s .phase ⊕ frequency in
     let nextStep = wholePart (reached ⊗ d .«num_steps_f») in
-    let changed = not (eqb nextStep (natAbs (s .step))) in
+    let changed = not (isStep nextStep (s .step)) in
     let wrap = changed && leb (d .«num_steps») nextStep in
     record {
       reached = reached;
@@ -118,9 +122,9 @@ nesLevel step half top = cond (ltb step half) step (top - step)
 abbrev pub triLevel : Float → Float
 triLevel phase = cond (lt phase half32) (two32 ⊗ phase) (two32 ⊖ two32 ⊗ phase)
 
--- Lines 119 to 137. The triangle ascends again from a wrap on (line 115), and no longer from its top on (line 75). The source stores the
--- frequency as it drops its interpolator, and what it stores is the last step. 01 counts a wrap as a cycle, and a rise where the whole part,
--- taken before any wrap, differs from the old step.
+-- Lines 119 to 140: line 140 stores what the next sample starts with. The triangle ascends again from a wrap on (line 115), and no longer from
+-- its top on (line 75). The source stores the frequency as it drops its interpolator, and what it stores is the last step. 01 counts a wrap as
+-- a cycle, and a rise where the whole part, taken before any wrap, differs from the old step.
 unfoldable pub finish : Depth → State → Turn → Gains → Samples → Float → Sampled
 finish d s t g x frequency = record {
   state = record {
@@ -134,6 +138,7 @@ finish d s t g x frequency = record {
   counts = record { cycles = oneIf (t .wrap); rises = oneIf (t .changed); falls = 0; cuts = 0 };
 }
 
+-- one sample, lines 54 to 140
 unfoldable pub sampleOf : Depth → State → Float → Sampled
 sampleOf d s frequency =
     let t = turnOf d s frequency in

@@ -59,7 +59,7 @@ fn step_in(step: i32, num_bits: u32) -> bool
     if step < 0 {
         false
     } else {
-        sample::unsigned(step) < depth::steps(depth::tested_bits(num_bits))
+        (step as u32) < depth::steps(depth::tested_bits(num_bits))
     }
 }
 

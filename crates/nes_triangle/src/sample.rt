@@ -1,11 +1,9 @@
-// One sample of the NES triangle, in the source's order. A state's step is tested to lie from 0 to 65,535 and no difference of steps goes
-// below zero, so that the source's signed arithmetic is done in unsigned numbers.
+// One sample of the NES triangle, in the source's order. A new step is a whole part and no difference of steps goes below zero, so that the
+// source's signed arithmetic is done in unsigned numbers.
 ghost use mathlib.Core.Path.{_≡_};
 ghost use mathlib.Core.Bool.{true};
 ghost use Prim.Native.Nat.{_≤_, _<_};
-ghost use lib.IntN.{natAbs};
-ghost use lib.Signed.{nonNeg};
-ghost use Rattle.nes_triangle.specs.Sample.{wrapPhase, wrapStep, turnOf, gainsOf, peakOf, directionOf, stepSign, edgeOf, troughOf, soundOf, nesLevel, triLevel, finish as finished, sampleOf};
+ghost use Rattle.nes_triangle.specs.Sample.{isStep, wrapPhase, wrapStep, turnOf, gainsOf, peakOf, directionOf, stepSign, edgeOf, troughOf, soundOf, nesLevel, triLevel, finish as finished, sampleOf};
 ghost use Rattle.nes_triangle.specs.Private.{Ready};
 use crate::State;
 use crate::depth::Depth;
@@ -37,6 +35,14 @@ pub struct Gains {
     pub tri_gain: f32,
 }
 
+// Whether the whole part is still the state's step.
+fn on_step(s: State, whole: u32) -> bool
+    requires { ⌜ whole ≤ 131072 ⌝ }
+    ensures { λ r. ⌜ r ≡ isStep whole (s .step) ⌝ }
+{
+    whole as i32 == s.step
+}
+
 fn wrap_phase(phase: f32, wrap: bool) -> f32
     ensures { λ r. ⌜ r ≡ wrapPhase phase wrap ⌝ }
 {
@@ -54,22 +60,12 @@ fn wrap_step(next_step: u32, num_steps: u32, wrap: bool) -> u32
     }
 }
 
-// A step that is not negative.
-pub(crate) fn unsigned(step: i32) -> u32
-    requires { ⌜ nonNeg step ≡ true ⌝ }
-    ensures { λ r. ⌜ r ≡ natAbs step ⌝ }
-{
-    step as u32
-}
-
 fn advance(d: Depth, s: State, frequency: f32) -> Turn
-    requires { ⌜ Ready d s frequency ⌝ }
     ensures { λ r. ⌜ r ≡ turnOf d s frequency ⌝ }
 {
     let reached = s.phase + frequency;
     let whole = whole_part::whole_part(reached * d.num_steps_f);
-    let step = unsigned(s.step);
-    let changed = whole != step;
+    let changed = !on_step(s, whole);
     let wrap = changed & (whole >= d.num_steps);
     let next_step = wrap_step(whole, d.num_steps, wrap);
     Turn {
