@@ -39,6 +39,7 @@ parametersIn frequency bits = parameterFrequencyIn frequency && bitsIn bits
 abbrev pub interpolators : State → Float → ℕ → List ParameterInterpolator
 interpolators s frequency n = newInterpolator (s .frequency) (minOf frequency maxFrequency) n ∷ []
 
+-- 01, "Rooms for each interpolated step": the frequency above 0 and at most 17/64
 abbrev pub rooms : List Room
 rooms = Frequency ∷ []
 

@@ -59,6 +59,7 @@ movingTo s to n =
 abbrev pub interpolators : State → Float → List Float → Float → ℕ → List ParameterInterpolator
 interpolators s frequency registration gain n = movingTo s (targetsOf frequency registration gain) n
 
+-- 01, "Rooms for each interpolated step": the frequency above 0 and at most 17/32, the four gains -16 to 16
 abbrev pub rooms : List Room
 rooms = StringFrequency ∷ Sixteen ∷ Sixteen ∷ Sixteen ∷ Sixteen ∷ []
 

@@ -1,5 +1,4 @@
--- What the crate's own functions ask of each other. No public contract cites it, and a reader need not believe it.
--- A tick is 2^-24: 4456448 ticks are 17/64, and 21233664 are 81/64. Assumes nothing.
+-- What the crate's own functions ask of each other. No public contract cites it, and a reader need not believe it. Assumes nothing.
 use mathlib.Core.Path.{_≡_}
 use mathlib.Core.Bool.{true}
 use Prim.Native.Nat.{ℕ, _*_, _<_}

@@ -1,4 +1,4 @@
--- One sample of the string synth: string_synth_oscillator.rs, lines 107 to 145, in its order. Assumes nothing.
+-- One sample of the string synth: string_synth_oscillator.rs, lines 107 to 150, in its order. Assumes nothing.
 use mathlib.Core.Bool.{Bool, false, cond}
 use mathlib.Core.List.{List}
 use Prim.Native.Nat.{ℕ, _-_}
@@ -34,10 +34,11 @@ discontinuityOf wraps segment saws =
     let of2 = lessIf (eqb (bitAnd segment 1) 0) of4 (saws .«saw_2_gain») in
     of2 ⊖ saws .«saw_1_gain»
 
--- a cycle is 8 units of phase, lines 120 to 122
+-- a cycle is 8 units of phase, lines 120 and 121
 abbrev pub wrappedPhase : Float → Bool → Float
 wrappedPhase phase wraps = cond wraps (phase ⊖ eight32) phase
 
+-- and eight segments, lines 120 and 122
 abbrev pub wrappedSegment : ℕ → ℕ
 wrappedSegment whole = cond (eqb whole 8) (whole - 8) whole
 
@@ -119,6 +120,7 @@ finish e saws held = record {
   counts = record { cycles = e .cycles; rises = e .rises; falls = 0; cuts = 0 };
 }
 
+-- one sample, lines 107 to 150
 unfoldable pub sampleOf : State → Saws → Float → Sampled
 sampleOf s saws held = finish (reachedOf s saws) saws held
 
