@@ -6,10 +6,8 @@ use Prim.Native.Nat.{ℕ, _*_, _/_, _^_, _≤_, _<_, min}
 use native.Mathlib.Nat.{le-trans, lt-of-lt-of-le, mul-assoc, mul-comm, mul-le-mul-right, mul-lt-mul-of-pos-right, div-lt-iff-lt-mul}
 use native.Mathlib.Omega.{arith}
 use borrow.Author.Tests.{leb-true, leb-false, ne-eqb}
-use mir.Syntax.{w32}
-use mir.Val.{SFits, ofZ}
 use lib.Dec.{leb, eqb, lit≤}
-use lib.IntN.{ℤ, pos, negsuc}
+use lib.IntN.{ℤ, pos}
 use lib.Pow.{pow-pos}
 use lib.Ieee.{Float}
 use Rattle.floats.specs.F32.{whole32, _⊕_, _⊗_}
@@ -18,21 +16,16 @@ use Rattle.floats.proofs.Ticks.{tick, cycle, cycle-is, tick-pos, Sum}
 use Rattle.floats.proofs.Turn.{Step, turn-1, turn-sum, turn-by}
 use Rattle.floats.proofs.PowerOfTwo.{mul-pow, unsigned-at, whole-pow}
 use Rattle.floats.proofs.WholeNumbers.{whole-at}
-use Rattle.whole_part.specs.WholePart.{wholePart}
+use Rattle.whole_part.specs.WholePart.{wholePart, isWhole}
 use Rattle.block.specs.Counting.{oneIf}
 use Rattle.ranges.proofs.Bools.{and-both}
 use Rattle.states.specs.declared.nes_triangle.State.{State}
 use Rattle.nes_triangle.specs.declared.depth.Depth.{Depth}
 use Rattle.nes_triangle.specs.declared.sample.Turn.{Turn}
 use Rattle.nes_triangle.specs.Depth.{depthOf}
-use Rattle.nes_triangle.specs.Sample.{isStep, wrapPhase, wrapStep, turnOf}
+use Rattle.nes_triangle.specs.Sample.{wrapPhase, wrapStep, turnOf}
 use Rattle.nes_triangle.specs.Private.{Ready}
 use Rattle.nes_triangle.proofs.Depths.{few-steps, top-most}
-
--- a machine holds a negative step as bits above those of every whole part
-pub is-step : (whole : ℕ) (step : ℤ) → whole ≤ 131072 → SFits w32 step → eqb whole (ofZ w32 step) ≡ isStep whole step
-is-step whole (pos n) h f = refl
-is-step whole (negsuc n) h f = ne-eqb whole (ofZ w32 (negsuc n)) (λ e. omega (arith, f .sfits))
 
 uncapped : (n c : ℕ) → n < c → min n c ≡ n
 uncapped n c h = omega arith
@@ -93,7 +86,7 @@ module _ (d : Depth) (s : State) (frequency : Float) (h : Ready d s frequency) w
   -- from the whole part, the old step and the number of steps
   module _ (whole n : ℕ) (old : ℤ) (at-whole : whole ≡ sum .n * 2 ^ h .bits / 2 ^ 149) (at-old : old ≡ pos (h .valid .step .n)) (at-n : n ≡ 2 ^ h .bits) where
     abbrev test : Bool
-    test = not (isStep whole old) && leb n whole
+    test = not (isWhole whole old) && leb n whole
 
     test-is : test ≡ leb n whole
     test-is = rw at-old (wraps whole (h .valid .step .n) n (rw at-n (h .valid .step .under)))
@@ -124,7 +117,7 @@ module _ (d : Depth) (s : State) (frequency : Float) (h : Ready d s frequency) w
 
 -- the turn, from its parts
 pub advanced : (d : Depth) (s : State) (frequency : Float) (whole : ℕ) (same : Bool) (phase : Float) (next : ℕ)
-    → whole ≡ wholePart ((s .phase ⊕ frequency) ⊗ d .«num_steps_f») → same ≡ isStep whole (s .step)
+    → whole ≡ wholePart ((s .phase ⊕ frequency) ⊗ d .«num_steps_f») → same ≡ isWhole whole (s .step)
     → (let wrap = not same && leb (d .«num_steps») whole in
     phase ≡ wrapPhase (s .phase ⊕ frequency) wrap → next ≡ wrapStep whole (d .«num_steps») wrap
     → record { reached = s .phase ⊕ frequency; phase = phase; «next_step» = next; changed = not same; wrap = wrap } ≡ turnOf d s frequency)

@@ -1,16 +1,16 @@
 -- One sample of the NES triangle: nes_triangle_oscillator.rs, lines 54 to 140, in its order. A new step is a whole part, and so a whole number from
 -- 0 up, and no difference of steps goes below 0: a wrap has come to the number of steps, and a step is at most the top. Assumes nothing.
-use mathlib.Core.Bool.{Bool, false, not, _&&_, _||_, cond}
+use mathlib.Core.Bool.{Bool, not, _&&_, _||_, cond}
 use mathlib.Core.List.{List}
 use Prim.Native.Nat.{ℕ, _-_}
 use lib.Dec.{ltb, leb, eqb}
-use lib.IntN.{ℤ, pos, negsuc}
+use lib.IntN.{pos}
 use lib.ListN.{getD}
 use lib.Ieee.{Float, lt, le, ne, neg}
 use Rattle.floats.specs.F32.{whole32, _⊕_, _⊖_, _⊗_, _⊘_, zero32, half32, one32, two32, four32}
 use Rattle.floats.specs.Helpers.{clampOf}
 use Rattle.polyblep.specs.Polyblep.{thisBlepSample, nextBlepSample, thisIntegratedBlepSample, nextIntegratedBlepSample}
-use Rattle.whole_part.specs.WholePart.{wholePart}
+use Rattle.whole_part.specs.WholePart.{wholePart, isWhole}
 use Rattle.block.specs.Counting.{oneIf}
 use Rattle.block.specs.Play.{Sample}
 use Rattle.states.specs.declared.nes_triangle.State.{State}
@@ -20,11 +20,6 @@ use Rattle.nes_triangle.specs.declared.sample.Gains.{Gains}
 use Rattle.nes_triangle.specs.declared.sample.Samples.{Samples}
 use Rattle.nes_triangle.specs.declared.sample.Sampled.{Sampled}
 use Rattle.nes_triangle.specs.Depth.{depthOf}
-
--- whether a whole part is the step, line 80. The source's step is an i32: a whole part never is a negative one.
-abbrev pub isStep : ℕ → ℤ → Bool
-isStep whole (pos step) = eqb whole step
-isStep whole (negsuc n) = false
 
 -- line 84
 abbrev pub wrapPhase : Float → Bool → Float
@@ -39,7 +34,7 @@ unfoldable pub turnOf : Depth → State → Float → Turn
 turnOf d s frequency =
     let reached = s .phase ⊕ frequency in
     let nextStep = wholePart (reached ⊗ d .«num_steps_f») in
-    let changed = not (isStep nextStep (s .step)) in
+    let changed = not (isWhole nextStep (s .step)) in
     let wrap = changed && leb (d .«num_steps») nextStep in
     record {
       reached = reached;

@@ -3,7 +3,8 @@
 ghost use mathlib.Core.Path.{_≡_};
 ghost use mathlib.Core.Bool.{true};
 ghost use Prim.Native.Nat.{_≤_, _<_};
-ghost use Rattle.nes_triangle.specs.Sample.{isStep, wrapPhase, wrapStep, turnOf, gainsOf, peakOf, directionOf, stepSign, edgeOf, troughOf, soundOf, nesLevel, triLevel, finish as finished, sampleOf};
+ghost use Rattle.whole_part.specs.WholePart.{isWhole};
+ghost use Rattle.nes_triangle.specs.Sample.{wrapPhase, wrapStep, turnOf, gainsOf, peakOf, directionOf, stepSign, edgeOf, troughOf, soundOf, nesLevel, triLevel, finish as finished, sampleOf};
 ghost use Rattle.nes_triangle.specs.Private.{Ready};
 use crate::State;
 use crate::depth::Depth;
@@ -38,7 +39,7 @@ pub struct Gains {
 // Whether the whole part is still the state's step.
 fn on_step(s: State, whole: u32) -> bool
     requires { ⌜ whole ≤ 131072 ⌝ }
-    ensures { λ r. ⌜ r ≡ isStep whole (s .step) ⌝ }
+    ensures { λ r. ⌜ r ≡ isWhole whole (s .step) ⌝ }
 {
     whole as i32 == s.step
 }

@@ -11,7 +11,7 @@ use Rattle.floats.specs.F32.{_⊕_, zero32, topStringStep}
 use Rattle.floats.proofs.Ticks.{tick, cycle, tick-pos, topStringStep-at, Sum}
 use Rattle.floats.proofs.Turn.{Step, turn-8, turn-sum, turn-stays, turn-by}
 use Rattle.floats.proofs.Ranges.{Positive, positive-of, positive-le, at-least-0}
-use Rattle.whole_part.specs.WholePart.{wholePart}
+use Rattle.whole_part.specs.WholePart.{wholePart, isWhole}
 use Rattle.rooms.specs.declared.Room.the-variants.{StringFrequency, Sixteen}
 use Rattle.ranges.specs.Ranges.{sixteenIn}
 use Rattle.rooms.specs.Rooms.{inRoom}
@@ -21,7 +21,7 @@ use Rattle.block.proofs.Plays.{Inside, Keeps}
 use Rattle.states.specs.declared.string_synth.State.{State}
 use Rattle.string_synth.specs.declared.sample.Saws.{Saws}
 use Rattle.string_synth.specs.declared.sample.Reached.{Reached}
-use Rattle.string_synth.specs.Sample.{isSegment, stayed, crossed, reachedOf, finish, sampleOf, sawsOf, sampleAt}
+use Rattle.string_synth.specs.Sample.{stayed, crossed, reachedOf, finish, sampleOf, sawsOf, sampleAt}
 use Rattle.string_synth.specs.Block.{gainsIn, rooms}
 use Rattle.string_synth.specs.Private.{Valid}
 use Rattle.string_synth.proofs.Segments.{crossed-placed, Whole, whole-law}
@@ -52,7 +52,7 @@ module _ (s : State) (saws : Saws) (h : Ready s (saws .frequency)) where
   whole = whole-law (sum .at) (omega (arith, sum .top, tick-pos))
 
   -- within a segment there is no wrap, since no segment is 8
-  stay-law : isSegment (wholePart reached) (s .segment) ≡ true → Law (h .valid .phase .n) (h .step .n) (stayed s reached (wholePart reached))
+  stay-law : isWhole (wholePart reached) (s .segment) ≡ true → Law (h .valid .phase .n) (h .step .n) (stayed s reached (wholePart reached))
   unfolding stayed
   stay-law l =
       let k : wholePart reached ≡ h .valid .k = eqb-true (wholePart reached) (h .valid .k) (rw (h .valid .segment) at l) in
@@ -70,9 +70,9 @@ module _ (s : State) (saws : Saws) (h : Ready s (saws .frequency)) where
 
   pub reach-law : Law (h .valid .phase .n) (h .step .n) (reachedOf s saws)
   unfolding reachedOf
-  reach-law = go (isSegment (wholePart reached) (s .segment)) refl
+  reach-law = go (isWhole (wholePart reached) (s .segment)) refl
     where
-      go : (o : Bool) → isSegment (wholePart reached) (s .segment) ≡ o → Law (h .valid .phase .n) (h .step .n) (cond o (stayed s reached (wholePart reached)) (crossed s saws reached (wholePart reached)))
+      go : (o : Bool) → isWhole (wholePart reached) (s .segment) ≡ o → Law (h .valid .phase .n) (h .step .n) (cond o (stayed s reached (wholePart reached)) (crossed s saws reached (wholePart reached)))
       go true l = stay-law l
       go false l = cross-law
 

@@ -4,31 +4,23 @@ use mathlib.Core.Bool.{Bool, true, false, cond}
 use Prim.Native.Nat.{ℕ, _-_, _*_, _/_, _^_, _≤_, _<_, min}
 use native.Mathlib.Nat.{lt-of-lt-of-le, div-lt-iff-lt-mul}
 use native.Mathlib.Omega.{arith}
-use borrow.Author.Tests.{eqb-true, leb-true, le-leb, eq-eqb, ne-eqb}
+use borrow.Author.Tests.{eqb-true, leb-true, le-leb, eq-eqb}
 use lib.Dec.{eqb, leb, lit≤}
 use lib.Pow.{pow-pos}
-use lib.IntN.{ℤ, pos, negsuc}
 use lib.Ieee.{Float, ne}
-use mir.Syntax.{w32}
-use mir.Val.{SFits, ofZ}
 use Rattle.floats.specs.F32.{_⊕_, zero32}
 use Rattle.floats.proofs.Values.{same-bool}
 use Rattle.floats.proofs.At.{At}
 use Rattle.floats.proofs.Ticks.{tick, cycle}
 use Rattle.floats.proofs.PowerOfTwo.{unsigned-at, whole-le}
-use Rattle.whole_part.specs.WholePart.{wholePart}
+use Rattle.whole_part.specs.WholePart.{wholePart, isWhole}
 use Rattle.states.specs.declared.string_synth.State.{State}
 use Rattle.string_synth.specs.declared.sample.Saws.{Saws}
 use Rattle.string_synth.specs.declared.sample.Reached.{Reached}
-use Rattle.string_synth.specs.Sample.{isSegment, wrappedSegment, blepOf, softened, stayed, entered, crossed, reachedOf}
-
--- a machine holds a negative segment as bits above those of every whole part
-pub is-segment : (whole : ℕ) (segment : ℤ) → whole ≤ 131072 → SFits w32 segment → eqb whole (ofZ w32 segment) ≡ isSegment whole segment
-is-segment whole (pos n) h f = refl
-is-segment whole (negsuc n) h f = ne-eqb whole (ofZ w32 (negsuc n)) (λ e. omega (arith, f .sfits))
+use Rattle.string_synth.specs.Sample.{wrappedSegment, blepOf, softened, stayed, entered, crossed, reachedOf}
 
 -- a step's end, from its parts
-pub reach-is : (s : State) (saws : Saws) (whole : ℕ) (within : Bool) (r : Reached) → whole ≡ wholePart (s .phase ⊕ saws .frequency) → within ≡ isSegment whole (s .segment)
+pub reach-is : (s : State) (saws : Saws) (whole : ℕ) (within : Bool) (r : Reached) → whole ≡ wholePart (s .phase ⊕ saws .frequency) → within ≡ isWhole whole (s .segment)
     → r ≡ cond within (stayed s (s .phase ⊕ saws .frequency) whole) (crossed s saws (s .phase ⊕ saws .frequency) whole) → r ≡ reachedOf s saws
 unfolding reachedOf
 reach-is s saws whole within r at-whole at-within at-r = rw (at-r, at-within, at-whole)
@@ -62,7 +54,7 @@ wrapped-small whole h = go (eqb whole 8)
 -- so that an i32 holds it
 pub reached-small : (s : State) (saws : Saws) → reachedOf s saws .segment ≤ 131072
 unfolding reachedOf stayed
-reached-small s saws = go (isSegment whole (s .segment))
+reached-small s saws = go (isWhole whole (s .segment))
   where
     phase : Float
     phase = s .phase ⊕ saws .frequency

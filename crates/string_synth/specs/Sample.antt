@@ -1,26 +1,21 @@
 -- One sample of the string synth: string_synth_oscillator.rs, lines 107 to 150, in its order. Assumes nothing.
-use mathlib.Core.Bool.{Bool, false, cond}
+use mathlib.Core.Bool.{Bool, cond}
 use mathlib.Core.List.{List}
 use Prim.Native.Nat.{ℕ, _-_}
 use lib.Bits.{bitAnd}
 use lib.Dec.{eqb}
-use lib.IntN.{ℤ, pos, negsuc}
+use lib.IntN.{pos}
 use lib.ListN.{getD}
 use lib.Ieee.{Float, ne}
 use Rattle.floats.specs.F32.{whole32, _⊕_, _⊖_, _⊗_, _⊘_, f32, zero32, half32, one32, two32, four32, eight32}
 use Rattle.polyblep.specs.Polyblep.{thisBlepSample, nextBlepSample}
-use Rattle.whole_part.specs.WholePart.{wholePart}
+use Rattle.whole_part.specs.WholePart.{wholePart, isWhole}
 use Rattle.block.specs.Counting.{oneIf}
 use Rattle.block.specs.Play.{Sample}
 use Rattle.states.specs.declared.string_synth.State.{State}
 use Rattle.string_synth.specs.declared.sample.Saws.{Saws}
 use Rattle.string_synth.specs.declared.sample.Reached.{Reached}
 use Rattle.string_synth.specs.declared.sample.Sampled.{Sampled}
-
--- whether a whole part is the segment, line 118. The source's segment is an i32: a whole part never is a negative one.
-abbrev pub isSegment : ℕ → ℤ → Bool
-isSegment whole (pos segment) = eqb whole segment
-isSegment whole (negsuc n) = false
 
 -- a gain taken off where its saw falls, lines 120 to 130
 abbrev pub lessIf : Bool → Float → Float → Float
@@ -92,7 +87,7 @@ unfoldable pub reachedOf : State → Saws → Reached
 reachedOf s saws =
     let phase' = s .phase ⊕ saws .frequency in
     let whole = wholePart phase' in
-    cond (isSegment whole (s .segment)) (stayed s phase' whole) (crossed s saws phase' whole)
+    cond (isWhole whole (s .segment)) (stayed s phase' whole) (crossed s saws phase' whole)
 
 -- what the next sample starts with, lines 141 to 144, with 0.125 and 0.25
 unfoldable pub nextSample : Reached → Saws → Float

@@ -1,7 +1,8 @@
 // One sample of the string synth, in the source's order.
 ghost use mathlib.Core.Path.{_≡_};
 ghost use Prim.Native.Nat.{_≤_};
-ghost use Rattle.string_synth.specs.Sample.{isSegment, lessIf, discontinuityOf, wrappedPhase, wrappedSegment, blepOf, softened, stayed, crossed, reachedOf, nextSample, finish as finished, sampleOf};
+ghost use Rattle.whole_part.specs.WholePart.{isWhole};
+ghost use Rattle.string_synth.specs.Sample.{lessIf, discontinuityOf, wrappedPhase, wrappedSegment, blepOf, softened, stayed, crossed, reachedOf, nextSample, finish as finished, sampleOf};
 use crate::State;
 use block::Counts;
 use std::num::nearest_u32_to_f32;
@@ -34,7 +35,7 @@ pub struct Sampled {
 // Whether the phase is still in the state's segment.
 fn in_segment(s: State, whole: u32) -> bool
     requires { ⌜ whole ≤ 131072 ⌝ }
-    ensures { λ r. ⌜ r ≡ isSegment whole (s .segment) ⌝ }
+    ensures { λ r. ⌜ r ≡ isWhole whole (s .segment) ⌝ }
 {
     whole as i32 == s.segment
 }

@@ -1,5 +1,5 @@
 -- `nes_triangle::sample::on_step` meets its contract: the bits of a negative step are none of a whole part. Assumes nothing.
-use Rattle.nes_triangle.proofs.Turns.{is-step}
+use Rattle.whole_part.proofs.Held.{is-whole}
 use borrow.Author.Needs.{needs}
 use Rattle.nes_triangle.proofs.sample.on_step.Statement.{statement}
 use Rattle.nes_triangle.proofs.sample.on_step.Tie as tie
@@ -8,7 +8,7 @@ cast-result : tie.Need-cast-result
 cast-result c = search needs
 
 returns : tie.Need-returns
-returns c = is-step (c .before .before .args .whole) (c .before .before .args .s .step) (c .before .before .pre) (search needs)
+returns c = is-whole (c .before .before .args .whole) (c .before .before .args .s .step) (c .before .before .pre) (search needs)
 
 pub on-step-spec : {M : Type 1} → statement M
 on-step-spec = tie.close (tie.spec cast-result returns)

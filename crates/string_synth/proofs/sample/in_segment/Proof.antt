@@ -1,5 +1,5 @@
 -- `string_synth::sample::in_segment` meets its contract: the bits of a negative segment are none of a whole part. Assumes nothing.
-use Rattle.string_synth.proofs.Segments.{is-segment}
+use Rattle.whole_part.proofs.Held.{is-whole}
 use borrow.Author.Needs.{needs}
 use Rattle.string_synth.proofs.sample.in_segment.Statement.{statement}
 use Rattle.string_synth.proofs.sample.in_segment.Tie as tie
@@ -8,7 +8,7 @@ cast-result : tie.Need-cast-result
 cast-result c = search needs
 
 returns : tie.Need-returns
-returns c = is-segment (c .before .before .args .whole) (c .before .before .args .s .segment) (c .before .before .pre) (search needs)
+returns c = is-whole (c .before .before .args .whole) (c .before .before .args .s .segment) (c .before .before .pre) (search needs)
 
 pub in-segment-spec : {M : Type 1} → statement M
 in-segment-spec = tie.close (tie.spec cast-result returns)
