@@ -11,7 +11,8 @@ use Rattle.rooms.specs.declared.Found.the-variants.{Outside, Nowhere}
 use Rattle.block.specs.Counting.{noCounts}
 use Rattle.rooms.specs.Steps.{stepsOf, firstOutside}
 use Rattle.block.specs.Play.{Sample, play}
-use Rattle.block.specs.Calls.{refusal, done, driftOr, run, playedOf}
+use Rattle.block.specs.Calls.{refusal, done, driftOr, run}
+use Rattle.block.specs.Fit.{playedOf}
 
 module _ {S : Type 0} (make : S → List Float → Float → Sample S) (rooms : List Room) (ps : List ParameterInterpolator) (s : S) (xs : List Float) where
   pub run-drift : (i : ℕ) → firstOutside rooms (stepsOf (length xs) ps) ≡ Outside i → run make rooms ps s xs ≡ refusal 6 i s xs

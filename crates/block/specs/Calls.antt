@@ -44,7 +44,3 @@ unfoldable pub run : {S : Type 0} → (S → List Float → Float → Sample S) 
 run make rooms ps s xs =
     let steps = stepsOf (length xs) ps in
     driftOr (firstOutside rooms steps) s xs (play make s noCounts steps xs)
-
--- and every sample, where no step lies outside its room
-abbrev pub playedOf : {S : Type 0} → (S → List Float → Float → Sample S) → S → List ParameterInterpolator → List Float → Call S
-playedOf make s ps xs = done (play make s noCounts (stepsOf (length xs) ps) xs)

@@ -1,4 +1,4 @@
--- What the functions of an oscillator ask of each other, whatever a valid state is for it. No public contract cites it, and a reader need not believe it. Assumes nothing.
+-- What the functions of an oscillator ask of each other and leave, whatever a valid state is for it. No public contract cites it, and a reader need not believe it. Assumes nothing.
 use mathlib.Core.Path.{_≡_}
 use mathlib.Core.List.{List}
 use Prim.Native.Nat.{_≤_}
@@ -8,6 +8,9 @@ use Rattle.parameter_interpolator.specs.declared.ParameterInterpolator.{Paramet
 use Rattle.rooms.specs.declared.Room.{Room}
 use Rattle.rooms.specs.declared.Found.the-variants.{Nowhere}
 use Rattle.rooms.specs.Steps.{stepsOf, firstOutside}
+use Rattle.block.specs.Counting.{noCounts}
+use Rattle.block.specs.Play.{Sample, play}
+use Rattle.block.specs.Calls.{Call, done}
 
 -- a call that passed its tests: what is left to find out is whether a step leaves its room
 pub record Fit {S : Type 0} (Valid : S → Type 0) (s : S) (xs : List Float) : Type 0 where
@@ -18,3 +21,7 @@ pub record Fit {S : Type 0} (Valid : S → Type 0) (s : S) (xs : List Float) : T
 pub record Playable {S : Type 0} (Valid : S → Type 0) (rooms : List Room) (s : S) (ps : List ParameterInterpolator) (xs : List Float) : Type 0 where
   pub fit : Fit Valid s xs
   pub inside : firstOutside rooms (stepsOf (length xs) ps) ≡ Nowhere
+
+-- what it then leaves: every sample
+abbrev pub playedOf : {S : Type 0} → (S → List Float → Float → Sample S) → S → List ParameterInterpolator → List Float → Call S
+playedOf make s ps xs = done (play make s noCounts (stepsOf (length xs) ps) xs)

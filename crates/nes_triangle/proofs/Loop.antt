@@ -11,8 +11,8 @@ use Rattle.block.specs.declared.Counts.{Counts}
 use Rattle.block.specs.Counting.{noCounts, plus, wrapped}
 use Rattle.rooms.specs.Steps.{moved, values}
 use Rattle.block.specs.Play.{Sample, Heard}
-use Rattle.block.specs.Calls.{done, playedOf}
-use Rattle.block.specs.Fit.{Playable}
+use Rattle.block.specs.Calls.{done}
+use Rattle.block.specs.Fit.{Playable, playedOf}
 use Rattle.block.proofs.Plays.{Playing, playing-start, playing-inside, playing-counts, playing-more, playing-end}
 use Rattle.states.specs.declared.nes_triangle.State.{State}
 use Rattle.nes_triangle.specs.declared.depth.Depth.{Depth}

@@ -1,8 +1,8 @@
 // A mixture of saws and squares in the style of divide-down organs: the source's oscillator/string_synth_oscillator.rs.
 ghost use mathlib.Core.Path.{_≡_};
 ghost use Rattle.rooms.specs.Steps.{stepsOf, firstOutside};
-ghost use Rattle.block.specs.Calls.{run, playedOf};
-ghost use Rattle.block.specs.Fit.{Fit, Playable};
+ghost use Rattle.block.specs.Calls.{run};
+ghost use Rattle.block.specs.Fit.{Fit, Playable, playedOf};
 ghost use Rattle.string_synth.specs.Sample.{sampleAt};
 ghost use Rattle.string_synth.specs.Block.{placeIn, gainsIn, stateIn, registrationIn, parametersIn, rooms, renderOf, left};
 ghost use Rattle.string_synth.specs.Private.{Valid, refused};

@@ -2,8 +2,8 @@
 ghost use mathlib.Core.Path.{_≡_};
 ghost use mathlib.Core.List.{[], _∷_};
 ghost use Rattle.rooms.specs.Steps.{stepsOf, firstOutside};
-ghost use Rattle.block.specs.Calls.{run, playedOf};
-ghost use Rattle.block.specs.Fit.{Fit, Playable};
+ghost use Rattle.block.specs.Calls.{run};
+ghost use Rattle.block.specs.Fit.{Fit, Playable, playedOf};
 ghost use Rattle.variable_saw.specs.Sample.{sampleAt};
 ghost use Rattle.variable_saw.specs.Block.{sawPhaseIn, stateIn, parametersIn, rooms, renderOf, left};
 ghost use Rattle.variable_saw.specs.Private.{Valid, refused};

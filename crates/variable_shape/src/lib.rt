@@ -1,8 +1,8 @@
 // A waveform from triangle over saw to square, whose phase can be reset by a master: the source's oscillator/variable_shape_oscillator.rs.
 ghost use mathlib.Core.Path.{_≡_};
 ghost use Rattle.rooms.specs.Steps.{stepsOf, firstOutside};
-ghost use Rattle.block.specs.Calls.{run, playedOf};
-ghost use Rattle.block.specs.Fit.{Fit, Playable};
+ghost use Rattle.block.specs.Calls.{run};
+ghost use Rattle.block.specs.Fit.{Fit, Playable, playedOf};
 ghost use Rattle.variable_shape.specs.Sample.{sampleAt};
 ghost use Rattle.variable_shape.specs.Block.{stateIn, parametersIn, stepping, rooms, renderOf, left};
 ghost use Rattle.variable_shape.specs.Private.{Started, refused, modulationRoom};
