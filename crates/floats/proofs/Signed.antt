@@ -9,8 +9,7 @@ use mathlib.Core.Bool.{Bool, true, false, not, _&&_, cond}
 use lib.IntN.{ℤ, pos, negℤ, _+ℤ_, _-ℤ_, +ℤ-negℤ-cancel, negℤ-negℤ, negℤ-+ℤ, +ℤ-comm}
 use lib.Dec.{T, ltb, leb, eqb, ltb→lt, nltb→le}
 use lib.Pow.{pow-pos}
-use lib.Ieee as Ieee
-use lib.Ieee.{Float, nan, inf, fin, Format, binary32, prec, emax, low, up, down, unlike, odd, round, sum, neg, add, sub, mul, div, lt, le, eq, fits}
+use lib.Ieee.{Float, nan, inf, fin, binary32, up, down, unlike, round, sum, neg, add, sub, mul, div, lt, le, eq, fits}
 use lib.Ieee.Fits.{down-pos, round-is, neg-fits, add-fits, mul-fits, div-fits}
 use lib.Ieee.Exact.{HasValue, units-val}
 use lib.Ieee.Nearest.{closest}
@@ -31,28 +30,6 @@ pub record Is (x : Float) (p q : ℕ) : Type 0 where
   pub value : Value (2 ^ 149) x p q
 
 -- ---- the sign
-pub neg-neg : (x : Float) → neg (neg x) ≡ x
-unfolding neg
-neg-neg nan = refl
-neg-neg (inf true) = refl
-neg-neg (inf false) = refl
-neg-neg (fin true m e) = refl
-neg-neg (fin false m e) = refl
-
-pub neg-round : (f : Format) (s : Bool) (n d : ℕ) → neg (round f s n d) ≡ round f (not s) n d
-neg-round f s n d = ap neg (round-is f s n d) ∙ neg-units _ _ ∙ sym (round-is f (not s) n d)
-  where
-    neg-odd : (d q k l : ℕ) → neg (odd d s q k l) ≡ odd d (not s) q k l
-    neg-odd d zero k l = unfold neg odd in refl
-    neg-odd d (suc q) k l = unfold neg odd in refl
-
-    neg-units : (q k : ℕ) → neg (Ieee.units f s q k) ≡ Ieee.units f (not s) q k
-    neg-units q k = unfold Ieee.units in go (ltb (q * 2 ^ k) (2 ^ (low f + suc (emax f))))
-      where
-        go : (b : Bool) → neg (cond b (odd (suc (prec f)) s q k (low f)) (inf s)) ≡ cond b (odd (suc (prec f)) (not s) q k (low f)) (inf (not s))
-        go true = neg-odd (suc (prec f)) q k (low f)
-        go false = unfold neg in refl
-
 pub neg-is : {x : Float} {p q : ℕ} → Is x p q → Is (neg x) q p
 neg-is {x} {p} {q} X = record { fit = neg-fits binary32 x (X .fit); value = go x (X .value) }
   where

@@ -10,7 +10,7 @@ use lib.Pow.{pow-add, pow-pos, pow-mono, shl-lt}
 use lib.Ieee.{Float, fits, ofBits}
 use lib.Ieee.Digits.{back}
 use Rattle.floats.specs.F32.{_⊕_, _⊖_, half32, one32, eight32, topStep, topStringStep, topSum}
-use Rattle.floats.proofs.Rounding.{Within, rnd, rnd-exact, rnd-off, rnd-up, rnd-dn}
+use Rattle.floats.proofs.Rounding.{Within, rnd, rnd-exact, rnd-up, rnd-dn}
 use Rattle.floats.proofs.At.{At, Even, huge, at-even, at-rnd, at-huge, add-at, sub-at}
 pub use Rattle.floats.proofs.At.{zero-at}
 
@@ -54,11 +54,6 @@ topStringStep-at = record { fit = tt; reads = refl }
 pub topSum-at : At topSum (21233664 * tick)
 unfolding tick fits ofBits
 topSum-at = record { fit = tt; reads = refl }
-
--- ---- the error of a rounded number: below 2.0 by 2 ^ -24 at most, and below 16.0 by 2 ^ -21
-pub off-2 : (n : ℕ) → n < 2 * cycle → Within (rnd n 1) n tick
-unfolding tick
-off-2 n h = rnd-off n 125 h
 
 -- ---- an exact difference
 gap : (k j : ℕ) → 23 + k < 24 + j → k ≤ j
@@ -111,7 +106,7 @@ wrap {s} {c} {n} {w} j e p q lo hi =
         subst (λ (x : ℕ). rnd (n - x) 1 ≡ n - x) (sym (length ∙ pow-add 2 23 (suc j)))
         (rnd-sub (suc j) 8388608 (at-even p) (subst (λ (x : ℕ). x ≤ n) length lo) (subst (λ (x : ℕ). n < x) (double j e ∙ ap (λ (x : ℕ). 2 ^ x) (same .1)) hi))
 
--- s - 1 for s from 1 up and below 2, and s - 8 for s from 8 up and below 16
+-- s - 1 for s from 1 up and below 2
 pub wrap-1 : {s : Float} {n : ℕ} → At s n → cycle ≤ n → n < 2 * cycle → At (s ⊖ one32) (n - cycle)
 unfolding tick
 wrap-1 p lo hi = wrap 125 refl p one-at lo hi
@@ -122,7 +117,6 @@ pub record Sum (z : Float) (a b B e : ℕ) : Type 0 where
   pub at : At z n
   pub near : Within n (a + b) e
   pub left : a ≤ n
-  pub right : b ≤ n
   pub top : n ≤ B
 
 pub sum-with : {x y : Float} {a b : ℕ} (B e : ℕ) → At x a → At y b → rnd B 1 ≡ B → B < huge → a + b ≤ B → Within (rnd (a + b) 1) (a + b) e → Sum (x ⊕ y) a b B e
@@ -133,7 +127,6 @@ sum-with {x} {y} {a} {b} B e p q r h l w =
       at = add-at p q (lt-of-le-of-lt t h);
       near = w;
       left = rnd-dn (a + b) a (at-rnd p) (omega arith);
-      right = rnd-dn (a + b) b (at-rnd q) (omega arith);
       top = t;
     }
 

@@ -8,10 +8,10 @@ use borrow.Author.Tests.{leb-true, ltb-true, eqb-true}
 use mir.Syntax.{w32}
 use mir.Val.{SFits, toZ, ofZ}
 use mir.Facts.{toZ-ofZ}
-use lib.Dec.{T, leb, ltb, eqb, lit<}
+use lib.Dec.{leb, ltb, eqb, lit<}
 use lib.IntN.{ℤ, pos, negsuc, natAbs}
 use lib.Pow.{pow-mono, shl-exact}
-use lib.Signed.{nonNeg, ltZ}
+use lib.Signed.{ltZ}
 use Rattle.ranges.proofs.Bools.{and-both}
 use Rattle.nes_triangle.specs.Depth.{bitsIn, testedBits, topOf}
 use Rattle.nes_triangle.specs.Block.{stepIn}
@@ -40,10 +40,6 @@ pub top-some : (n top : ℕ) → 2 ≤ n → top ≡ topOf n → 1 ≤ top
 top-some n top h e = rw e (top-most n 1 (omega arith))
 
 -- ---- a state's step, read back from its bits, and the test `step < 0`
-pub not-negative : (z : ℤ) → ltZ z (pos 0) ≡ false → T (nonNeg z)
-not-negative (pos n) h = tt
-not-negative (negsuc n) h = absurd (true≢false h)
-
 pub negative : (bits : ℕ) (z : ℤ) → SFits w32 z → ltZ (toZ w32 (ofZ w32 z)) (pos 0) ≡ true → false ≡ stepIn bits z
 negative bits z f h = go z (rw (toZ-ofZ f) at h)
   where

@@ -5,8 +5,8 @@ use Prim.Native.Nat.{ℕ, suc, zero, _-_, _≤_, _<_}
 use native.Mathlib.Nat.{zero-add}
 use native.Mathlib.Omega.{arith}
 use lib.IntN.{ℤ, pos, negsuc, _-ℤ_, natAbs}
-use lib.Signed.{ltZ, nonNeg}
-use lib.Dec.{T, ltb}
+use lib.Signed.{ltZ}
+use lib.Dec.{ltb}
 use mir.Syntax.{w32}
 use mir.Val.{toZ, ofZ, SFits}
 use mir.Facts.{toZ-ofZ, toZ-pos}
@@ -59,11 +59,7 @@ negative z f h = rw (toZ-ofZ f) (go z f (rw (toZ-ofZ f) at h))
     go (pos n) f h = absurd (omega (arith, ltb-true n 0 h))
     go (negsuc n) f h = rw (up n) (record { n = n; under = f .sfits; fits = record { sfits = f .sfits }; at = toZ-pos w32 (f .sfits); word = refl })
 
--- a number that is not negative: what the code's cast asks, and what it gives
-pub not-negative : (z : ℤ) → ltZ z (pos 0) ≡ false → T (nonNeg z)
-not-negative (pos n) h = tt
-not-negative (negsuc n) h = absurd (true≢false h)
-
+-- a number that is not negative: what the code's cast gives
 pub unsigned-of-rest : (z : ℤ) → SFits w32 z → ltZ (toZ w32 (ofZ w32 z)) (pos 0) ≡ false → natAbs (toZ w32 (ofZ w32 z)) ≡ unsignedOf z
 unsigned-of-rest z f h = rw (toZ-ofZ f) (go z (rw (toZ-ofZ f) at h))
   where

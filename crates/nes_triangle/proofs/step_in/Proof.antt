@@ -2,7 +2,8 @@
 use mir.Syntax.{w32}
 use mir.Val.{toZ, ofZ}
 use mir.Facts.{toZ-ofZ, fits-natAbs}
-use Rattle.nes_triangle.proofs.Depths.{not-negative, negative, step-in-is}
+use Rattle.floats.proofs.Integers.{not-negative}
+use Rattle.nes_triangle.proofs.Depths.{negative, step-in-is}
 use borrow.Author.Needs.{needs}
 use Rattle.nes_triangle.proofs.step_in.Statement.{statement}
 use Rattle.nes_triangle.proofs.step_in.Tie as tie

@@ -3,7 +3,8 @@ use native.Mathlib.Omega.{arith}
 use mir.Syntax.{w32}
 use mir.Val.{toZ, ofZ}
 use mir.Facts.{toZ-ofZ, fits-natAbs}
-use Rattle.words.proofs.Words.{negative, not-negative, unsigned-of-rest}
+use Rattle.floats.proofs.Integers.{not-negative}
+use Rattle.words.proofs.Words.{negative, unsigned-of-rest}
 use Rattle.words.proofs.unsigned.Statement.{statement}
 use Rattle.words.proofs.unsigned.Tie as tie
 
