@@ -4,13 +4,19 @@
 /// The largest number whose whole part the port works out.
 const WHOLE_PART_END: f32 = 131_072.0;
 
-/// Rust leaves open which zero it gives for two zeros of different sign.
-fn zeros_of_both_signs(x: f32, y: f32) -> bool {
-    x == 0.0 && y == 0.0 && x.to_bits() != y.to_bits()
+/// Rust leaves open which zero it gives for two zeros of different sign; and of a signalling NaN
+/// and a number it gives the number on x86-64, as it says, and a NaN on Arm.
+fn left_open(x: f32, y: f32) -> bool {
+    let zeros_of_both_signs = x == 0.0 && y == 0.0 && x.to_bits() != y.to_bits();
+    zeros_of_both_signs || is_signalling(x) || is_signalling(y)
+}
+
+fn is_signalling(x: f32) -> bool {
+    x.is_nan() && x.to_bits() & 0x40_0000 == 0
 }
 
 pub fn min(x: f32, y: f32) -> f32 {
-    if zeros_of_both_signs(x, y) {
+    if left_open(x, y) {
         decided_min(x, y)
     } else {
         f32::min(x, y)
@@ -18,7 +24,7 @@ pub fn min(x: f32, y: f32) -> f32 {
 }
 
 pub fn max(x: f32, y: f32) -> f32 {
-    if zeros_of_both_signs(x, y) {
+    if left_open(x, y) {
         decided_max(x, y)
     } else {
         f32::max(x, y)

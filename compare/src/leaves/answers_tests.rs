@@ -27,9 +27,9 @@ fn on_many(test: impl Fn(f32, f32, f32)) {
 }
 
 #[test]
-fn min_and_max_agree_apart_from_zeros_of_both_signs() {
+fn min_and_max_agree_wherever_rust_is_the_same_everywhere() {
     on_many(|x, y, _| {
-        if !zeros_of_both_signs(x, y) {
+        if !left_open(x, y) {
             assert!(same(decided_min(x, y), f32::min(x, y)), "min {x:e} {y:e}");
             assert!(same(decided_max(x, y), f32::max(x, y)), "max {x:e} {y:e}");
         }

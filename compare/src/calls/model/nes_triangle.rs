@@ -174,7 +174,7 @@ impl Oscillator<1> for NesTriangle {
 
     fn ramps(&self, call: &Record) -> [Ramp; 1] {
         let target = clipped(call.float(FREQUENCY_AT));
-        let room = Room::Frequency(FREQUENCY_END);
+        let room = Room::frequency(FREQUENCY_END);
         [Ramp::new(self.frequency, target, call.length(), room)]
     }
 

@@ -1,17 +1,51 @@
 //! An interpolated parameter by value, and the room that its steps have to keep to.
 
-use super::range::within;
-
+/// Where a parameter's steps may lie; `excluding` says whether an end lies outside.
 #[derive(Clone, Copy)]
-pub enum Room {
+pub struct Room {
+    pub low: f32,
+    pub excluding_low: bool,
+    pub high: f32,
+    pub excluding_high: bool,
+    /// Not where the source takes no step of this parameter in this call.
+    pub stepped: bool,
+}
+
+impl Room {
     /// Above 0 and at most this.
-    Frequency(f32),
+    pub fn frequency(end: f32) -> Self {
+        Room {
+            excluding_low: true,
+            ..Room::within((0.0, end))
+        }
+    }
+
     /// Strictly between 0 and 1.
-    Width,
+    pub fn width() -> Self {
+        Room {
+            excluding_low: true,
+            excluding_high: true,
+            ..Room::within((0.0, 1.0))
+        }
+    }
+
     /// From the first number to the second.
-    Within((f32, f32)),
-    /// The source takes no step of this parameter in this call.
-    NotStepped,
+    pub fn within((low, high): (f32, f32)) -> Self {
+        Room {
+            low,
+            excluding_low: false,
+            high,
+            excluding_high: false,
+            stepped: true,
+        }
+    }
+
+    /// A NaN lies outside.
+    fn has(self, x: f32) -> bool {
+        let above = self.low < x || (self.low == x && !self.excluding_low);
+        let below = x < self.high || (x == self.high && !self.excluding_high);
+        above && below
+    }
 }
 
 #[derive(Clone, Copy)]
@@ -32,19 +66,14 @@ impl Ramp {
 
     /// Takes one step. Where none is taken the value keeps its bits: adding 0 could lose a sign.
     pub fn step(&mut self) -> f32 {
-        if !matches!(self.room, Room::NotStepped) {
+        if self.room.stepped {
             self.value += self.increment;
         }
         self.value
     }
 
     fn in_room(&self) -> bool {
-        match self.room {
-            Room::Frequency(end) => 0.0 < self.value && self.value <= end,
-            Room::Width => 0.0 < self.value && self.value < 1.0,
-            Room::Within(range) => within(self.value, range),
-            Room::NotStepped => true,
-        }
+        !self.room.stepped || self.room.has(self.value)
     }
 }
 

@@ -145,12 +145,12 @@ impl Oscillator<5> for StringSynth {
         let (frequency, places) = octave(call.float(FREQUENCY_AT));
         let [saw_8, saw_4, saw_2, saw_1] = gains(call, places);
         let to = |value, target, room| Ramp::new(value, target, call.length(), room);
-        let gain_room = Room::Within(MODULATION);
+        let gain_room = Room::within(MODULATION);
         [
             to(
                 self.frequency,
                 frequency,
-                Room::Frequency(STRING_FREQUENCY_END),
+                Room::frequency(STRING_FREQUENCY_END),
             ),
             to(self.saw_8_gain, saw_8, gain_room),
             to(self.saw_4_gain, saw_4, gain_room),

@@ -125,7 +125,7 @@ impl Oscillator<2> for SuperSquare {
                 value,
                 clipped(target),
                 call.length(),
-                Room::Frequency(FREQUENCY_END),
+                Room::frequency(FREQUENCY_END),
             )
         };
         [

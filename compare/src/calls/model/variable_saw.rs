@@ -124,12 +124,12 @@ impl Oscillator<3> for VariableSaw {
         let width = fitting_width(call.float(WIDTH_OR_SHAPE_AT), frequency);
         let to = |value, target, room| Ramp::new(value, target, call.length(), room);
         [
-            to(self.frequency, frequency, Room::Frequency(FREQUENCY_END)),
-            to(self.pw, width, Room::Width),
+            to(self.frequency, frequency, Room::frequency(FREQUENCY_END)),
+            to(self.pw, width, Room::width()),
             to(
                 self.waveshape,
                 call.float(WAVESHAPE_AT),
-                Room::Within(WAVESHAPE),
+                Room::within(WAVESHAPE),
             ),
         ]
     }

@@ -194,21 +194,20 @@ impl Oscillator<5> for VariableShape {
         let slave = clipped(call.float(FREQUENCY_AT));
         let width = fitting_width(call.float(WIDTH_OR_SHAPE_AT), slave);
         let modulation = call.float(PHASE_MODULATION_AT);
-        let modulation_room = if call.phase_output() {
-            Room::Within(MODULATION)
-        } else {
-            Room::NotStepped
+        let modulation_room = Room {
+            stepped: call.phase_output(),
+            ..Room::within(MODULATION)
         };
-        let frequency_room = Room::Frequency(FREQUENCY_END);
+        let frequency_room = Room::frequency(FREQUENCY_END);
         let to = |value, target, room| Ramp::new(value, target, call.length(), room);
         [
             to(self.master_frequency, master, frequency_room),
             to(self.slave_frequency, slave, frequency_room),
-            to(self.pw, width, Room::Width),
+            to(self.pw, width, Room::width()),
             to(
                 self.waveshape,
                 call.float(WAVESHAPE_AT),
-                Room::Within(WAVESHAPE),
+                Room::within(WAVESHAPE),
             ),
             to(self.phase_modulation, modulation, modulation_room),
         ]
