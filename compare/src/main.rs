@@ -20,7 +20,7 @@ use std::{env, fs, process};
 include!(concat!(env!("OUT_DIR"), "/source.rs"));
 
 const USAGE: &str = "usage: compare make-leaves COUNT SEED | expect-leaves | \
-    make-calls COUNT SEED [--kinds LIST] | expect-calls [--kinds LIST] [--stats] | \
+    make-calls COUNT SEED [--kinds LIST] | make-recorded-calls | expect-calls [--kinds LIST] [--stats] | \
     make-lists COUNT SEED DIR | expect-list | expect-lists DIR [--stats] | \
     first-difference leaves|calls INPUT EXPECTED GOT | first-difference lists DIR";
 
@@ -41,6 +41,7 @@ fn run(words: &[&str]) -> Result<(), String> {
         ["make-calls", count, seed, "--kinds", list] => {
             make_calls(number(count)?, number(seed)?, Kinds::parse(list)?)
         }
+        ["make-recorded-calls"] => write_calls(&calls::make::recorded()),
         ["expect-calls", options @ ..] => {
             let (kinds, with_stats) = expect_options(options)?;
             expect_calls(&kinds, with_stats)
@@ -95,8 +96,12 @@ fn expect_leaves() -> Result<(), String> {
 }
 
 fn make_calls(count: u64, seed: u64, kinds: Kinds) -> Result<(), String> {
+    write_calls(&calls::make::records(count as usize, seed, &kinds))
+}
+
+fn write_calls(records: &[Record]) -> Result<(), String> {
     let mut out = BufWriter::new(io::stdout().lock());
-    for record in calls::make::records(count as usize, seed, &kinds) {
+    for record in records {
         out.write_all(&record.0).map_err(cannot_write)?;
     }
     out.flush().map_err(cannot_write)

@@ -19,12 +19,11 @@ pub fn expect(
     kinds: &Kinds,
     stats: &mut Stats,
 ) -> Result<String, String> {
-    let length = record.length();
-    if !kinds.has(record.kind()) || length > LONGEST_TRIED {
+    if !kinds.has(record.kind()) || record.length() > LONGEST_TRIED {
         stats.pass_over();
         return Ok(PASSED_OVER.to_string());
     }
-    let mut samples = buffer(length);
+    let mut samples = buffer(record);
     let outcome =
         held_call(record, &mut samples).map_err(|told| format!("record {number}: {told}"))?;
     stats.add(record.kind(), &samples, &outcome);

@@ -10,6 +10,10 @@ impl Kinds {
         Self::of(1..=Self::COUNT)
     }
 
+    pub fn one(kind: u8) -> Self {
+        Self::of([kind])
+    }
+
     fn of(kinds: impl IntoIterator<Item = u8>) -> Self {
         let mut has = [false; 256];
         for kind in kinds {

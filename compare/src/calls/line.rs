@@ -1,13 +1,20 @@
 //! The buffer before a call, and the line that tells what the call left.
 
 use super::model::Outcome;
+use super::record::{Record, BUFFER_AT};
 
 /// The bits that stand for every NaN, since which NaN an operation gives is left open.
 const NAN: u32 = 0x7fc0_0000;
 
-/// The buffer before a call: sample i holds (i mod 8 + 1) / 4.
-pub fn buffer(length: usize) -> Vec<f32> {
-    (0..length).map(|i| (i % 8 + 1) as f32 / 4.0).collect()
+/// The buffer before a record's call: the bits that the record names in each sample, or else, in
+/// sample i, (i mod 8 + 1) / 4.
+pub fn buffer(record: &Record) -> Vec<f32> {
+    let plain = |i: usize| (i % 8 + 1) as f32 / 4.0;
+    let held = |i: usize| match record.word(BUFFER_AT) {
+        0 => plain(i),
+        bits => f32::from_bits(bits),
+    };
+    (0..record.length()).map(held).collect()
 }
 
 /// The same word for every NaN. The whole numbers and bools of a state are too small to look like
@@ -58,16 +65,20 @@ mod tests {
         assert_eq!(checksum(&[]), 0);
         assert_eq!(checksum(&[0.25]), 0x3e80_0000);
         let two = (0x3e80_0000u64 * 1_000_003 + 0x3f00_0000) % 4_294_967_291;
-        assert_eq!(u64::from(checksum(&buffer(2))), two);
+        assert_eq!(u64::from(checksum(&[0.25, 0.5])), two);
         let nan = f32::from_bits(0xff80_0001);
         assert_eq!(checksum(&[nan]), NAN);
     }
 
     #[test]
-    fn the_buffer_counts_to_two() {
+    fn the_buffer_counts_to_two_or_holds_what_is_named() {
+        let mut record = Record::of_kind(5);
+        record.set_length(9);
         assert_eq!(
-            buffer(9),
+            buffer(&record),
             [0.25, 0.5, 0.75, 1.0, 1.25, 1.5, 1.75, 2.0, 0.25]
         );
+        record.set_float(BUFFER_AT, -3.5);
+        assert_eq!(buffer(&record), [-3.5; 9]);
     }
 }

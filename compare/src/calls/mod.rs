@@ -12,7 +12,7 @@ pub mod stats;
 
 pub use kinds::Kinds;
 pub use line::answer_and_counts;
-pub use original::starting_words;
+pub use model::start;
 
 #[cfg(test)]
 mod tests;

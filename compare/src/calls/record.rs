@@ -23,6 +23,8 @@ pub const WAVESHAPE_AT: usize = 20;
 pub const PHASE_MODULATION_AT: usize = 24;
 pub const REGISTRATION_AT: usize = 28;
 pub const REGISTRATION_COUNT_AT: usize = 56;
+/// What each sample of the buffer holds before the call; 0 stands for plain numbers.
+pub const BUFFER_AT: usize = 60;
 
 #[derive(Clone, Copy)]
 pub struct Record(pub [u8; RECORD_BYTES]);

@@ -7,7 +7,7 @@ use super::record::*;
 use super::{expect::expect, stats::Stats, Kinds};
 
 fn call(record: &Record) -> Outcome {
-    model::call(record, &mut buffer(record.length())).unwrap()
+    model::call(record, &mut buffer(record)).unwrap()
 }
 
 fn counts(cycles: u32, rises: u32, falls: u32, cuts: u32) -> Counts {

@@ -4,7 +4,7 @@
 use super::job;
 use super::{refused, Tried, JOB_BYTES};
 use crate::calls::expect::held_call;
-use crate::calls::{answer_and_counts, starting_words, Kinds};
+use crate::calls::{answer_and_counts, start, Kinds};
 
 const BAD_INPUT: &str = "8\n";
 const BAD_RECORD: &str = "7 0 0 0 0 0";
@@ -32,7 +32,7 @@ struct Carried([Vec<u32>; Kinds::COUNT as usize + 1]);
 
 impl Carried {
     fn start() -> Self {
-        Carried([0, 1, 2, 3, 4, 5].map(|kind| starting_words(kind, true)))
+        Carried([0, 1, 2, 3, 4, 5].map(|kind| start(kind, true)))
     }
 
     /// Makes the call that a record asks for. A refused one hands the state back as it was given.

@@ -81,7 +81,7 @@ fn put_call(
     requires { ⌜ (from + 128 ≤ 32768) × (at + 176 ≤ 45056) ⌝ }
     ensures { λ end. ⌜ end ≤ at + 176 ⌝ }
 {
-    samples::fill(out);
+    samples::fill(out, record::word_at(input, from + 60));
     match input[from] {
         1 => kinds::put_variable_shape(input, from, out, text, at),
         2 => kinds::put_variable_saw(input, from, out, text, at),

@@ -58,7 +58,7 @@ impl Chains {
         if record.length() > LONGEST_TRIED {
             return;
         }
-        match model::call(&record, &mut buffer(record.length())) {
+        match model::call(&record, &mut buffer(&record)) {
             Some(outcome) if outcome.answer == 0 => {
                 let mut after = record;
                 let words: Vec<u32> = outcome.words.into_iter().map(canonical).collect();

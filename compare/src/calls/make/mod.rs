@@ -1,6 +1,7 @@
 //! Lists of call records: first fixed ones (figures, block lengths, every boundary), then random
 //! ones whose states come from chains of calls and from set-ups made by hand.
 
+mod beside;
 mod chains;
 pub mod drifts;
 pub mod fields;
@@ -16,10 +17,29 @@ use chains::Chains;
 /// Kind bytes that no oscillator has.
 const NO_KINDS: [u8; 4] = [0, 6, 7, 255];
 
+/// How many random records of each kind are recorded, and their seed.
+const RECORDED: usize = 300;
+const RECORDED_SEED: u64 = 2;
+
 /// A list of `count` records, most of the kinds named, some of others.
 pub fn records(count: usize, seed: u64, kinds: &Kinds) -> Vec<Record> {
     let mut records: Vec<Record> = kinds.list().into_iter().flat_map(fixed::records).collect();
     records.truncate(count);
+    records.extend(random(count - records.len(), seed, kinds));
+    records
+}
+
+/// The records of crates/calls: for each kind all fixed ones, those beside a turning point, and some
+/// random ones.
+pub fn recorded() -> Vec<Record> {
+    let of_kind = |kind: u8| {
+        let random = random(RECORDED, RECORDED_SEED, &Kinds::one(kind));
+        [fixed::records(kind), beside::beside(kind), random].concat()
+    };
+    Kinds::all().list().into_iter().flat_map(of_kind).collect()
+}
+
+fn random(count: usize, seed: u64, kinds: &Kinds) -> Vec<Record> {
     let mut random = Random::new(seed);
     let mut chains = Chains::default();
     let named = kinds.list();
@@ -29,12 +49,12 @@ pub fn records(count: usize, seed: u64, kinds: &Kinds) -> Vec<Record> {
         .filter(|&k| !kinds.has(k))
         .collect();
     let others = [others.as_slice(), &NO_KINDS].concat();
-    while records.len() < count {
+    let next = |_| {
         let kind = match random.one_in(16) {
             true => random.pick(&others),
             false => random.pick(&named),
         };
-        records.push(chains.next(kind, &mut random));
-    }
-    records
+        chains.next(kind, &mut random)
+    };
+    (0..count).map(next).collect()
 }

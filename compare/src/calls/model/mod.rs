@@ -1,11 +1,12 @@
 //! A second implementation of the five oscillators, with what the port adds to the source: refusals
-//! by number, and the four counts.
+//! by number, and the four counts; and the states to start from.
 
 mod nes_triangle;
 mod pair;
 mod ramp;
 mod range;
 mod render;
+mod start;
 mod string_synth;
 mod super_square;
 mod targets;
@@ -16,6 +17,7 @@ mod words;
 #[cfg(test)]
 pub use render::Counts;
 pub use render::Outcome;
+pub use start::start;
 
 use super::record::{Record, NES, SAW, SHAPE, STRING, SUPER_SQUARE};
 use render::render;

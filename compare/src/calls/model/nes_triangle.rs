@@ -174,8 +174,8 @@ impl Oscillator<1> for NesTriangle {
 
     fn ramps(&self, call: &Record) -> [Ramp; 1] {
         let target = clipped(call.float(FREQUENCY_AT));
-        let room = Room::frequency(FREQUENCY_END);
-        [Ramp::new(self.frequency, target, call.length(), room)]
+        let to = |value, target, room| Ramp::new(value, target, call.length(), room);
+        [to(self.frequency, target, Room::frequency(FREQUENCY_END))]
     }
 
     fn store(&mut self, [frequency]: [f32; 1]) {

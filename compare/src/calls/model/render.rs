@@ -5,6 +5,7 @@ use super::ramp::{first_outside, Ramp};
 use crate::calls::record::Record;
 
 const LONGEST_BLOCK: usize = 4096;
+const DRIFT: usize = 6;
 
 #[derive(Clone, Copy, Debug, Default, PartialEq)]
 pub struct Counts {
@@ -72,25 +73,28 @@ fn checked<O: Oscillator<N>, const N: usize>(
     words: &[u32],
     length: usize,
 ) -> Result<O, Refusal> {
-    if length > LONGEST_BLOCK {
-        return Err(Refusal(1, 0));
+    let state = O::from_words(words);
+    let refused = |answer: usize| match answer {
+        1 => length > LONGEST_BLOCK,
+        2 => !O::registration_fits(call),
+        3 => !state.is_some_and(|state| state.in_range(call)),
+        4 => !O::settings_in_range(call),
+        5 => O::too_high(call),
+        _ => false,
+    };
+    let order = [1, 2, 3, 4, 5, DRIFT];
+    for answer in order {
+        if refused(answer) {
+            return Err(Refusal(answer, 0));
+        }
+        if answer == DRIFT {
+            let steps = state.map(|state| first_outside(state.ramps(call), length));
+            if let Some(Some(sample)) = steps {
+                return Err(Refusal(DRIFT, sample));
+            }
+        }
     }
-    if !O::registration_fits(call) {
-        return Err(Refusal(2, 0));
-    }
-    let state = O::from_words(words)
-        .filter(|state| state.in_range(call))
-        .ok_or(Refusal(3, 0))?;
-    if !O::settings_in_range(call) {
-        return Err(Refusal(4, 0));
-    }
-    if O::too_high(call) {
-        return Err(Refusal(5, 0));
-    }
-    match first_outside(state.ramps(call), length) {
-        Some(sample) => Err(Refusal(6, sample)),
-        None => Ok(state),
-    }
+    Ok(state.expect("words that stand for no state are refused"))
 }
 
 fn play<O: Oscillator<N>, const N: usize>(mut state: O, call: &Record, out: &mut [f32]) -> Outcome {

@@ -115,16 +115,13 @@ impl Oscillator<5> for StringSynth {
     }
 
     fn in_range(&self, _call: &Record) -> bool {
-        let gains = [
-            self.saw_8_gain,
-            self.saw_4_gain,
-            self.saw_2_gain,
-            self.saw_1_gain,
-        ];
         phase(self.phase, 8.0)
             && (0..STEPS).contains(&self.segment)
             && within(self.frequency, (0.0, STRING_FREQUENCY_END))
-            && gains.into_iter().all(|gain| within(gain, MODULATION))
+            && within(self.saw_8_gain, MODULATION)
+            && within(self.saw_4_gain, MODULATION)
+            && within(self.saw_2_gain, MODULATION)
+            && within(self.saw_1_gain, MODULATION)
     }
 
     fn registration_fits(call: &Record) -> bool {
@@ -132,8 +129,15 @@ impl Oscillator<5> for StringSynth {
     }
 
     fn settings_in_range(call: &Record) -> bool {
+        let asked = call.registration();
         frequency_parameter(call.float(FREQUENCY_AT))
-            && call.registration().into_iter().all(unit)
+            && unit(asked[0])
+            && unit(asked[1])
+            && unit(asked[2])
+            && unit(asked[3])
+            && unit(asked[4])
+            && unit(asked[5])
+            && unit(asked[6])
             && within(call.float(MASTER_OR_GAIN_AT), (0.0, 4.0))
     }
 
@@ -145,13 +149,10 @@ impl Oscillator<5> for StringSynth {
         let (frequency, places) = octave(call.float(FREQUENCY_AT));
         let [saw_8, saw_4, saw_2, saw_1] = gains(call, places);
         let to = |value, target, room| Ramp::new(value, target, call.length(), room);
+        let frequency_room = Room::frequency(STRING_FREQUENCY_END);
         let gain_room = Room::within(MODULATION);
         [
-            to(
-                self.frequency,
-                frequency,
-                Room::frequency(STRING_FREQUENCY_END),
-            ),
+            to(self.frequency, frequency, frequency_room),
             to(self.saw_8_gain, saw_8, gain_room),
             to(self.saw_4_gain, saw_4, gain_room),
             to(self.saw_2_gain, saw_2, gain_room),

@@ -120,17 +120,11 @@ impl Oscillator<2> for SuperSquare {
     fn ramps(&self, call: &Record) -> [Ramp; 2] {
         let frequency = call.float(FREQUENCY_AT);
         let slave = frequency * slave_factor(call.float(WIDTH_OR_SHAPE_AT));
-        let to = |value, target| {
-            Ramp::new(
-                value,
-                clipped(target),
-                call.length(),
-                Room::frequency(FREQUENCY_END),
-            )
-        };
+        let frequency_room = Room::frequency(FREQUENCY_END);
+        let to = |value, target, room| Ramp::new(value, clipped(target), call.length(), room);
         [
-            to(self.master_frequency, frequency),
-            to(self.slave_frequency, slave),
+            to(self.master_frequency, frequency, frequency_room),
+            to(self.slave_frequency, slave, frequency_room),
         ]
     }
 

@@ -1,0 +1,95 @@
+"""Wrong versions that no rule makes: (file, expression, what is wrong, the wrong expression)."""
+
+
+def orders():
+    """Each refusal looked for before each one that comes earlier."""
+    right = ["1", "2", "3", "4", "5", "DRIFT"]
+    for later in range(1, 6):
+        for earlier in range(later):
+            wrong = right[:later] + right[later + 1 :]
+            wrong.insert(earlier, right[later])
+            yield ("calls/model/render.rs", "[1, 2, 3, 4, 5, DRIFT]", f"{later + 1} before {earlier + 1}", f"[{', '.join(wrong)}]")
+
+
+def numbers():
+    """Each answer with another number."""
+    for answer in range(1, 6):
+        for other in (9, answer + 1):
+            new = f"Err(Refusal(if answer == {answer} {{ {other} }} else {{ answer }}, 0))"
+            yield ("calls/model/render.rs", "Err(Refusal(answer, 0))", f"{answer} numbered {other}", new)
+    for other in (5, 7, 9):
+        yield ("calls/model/render.rs", "Err(Refusal(DRIFT, sample))", f"6 numbered {other}", f"Err(Refusal({other}, sample))")
+
+
+SHAPE, SAW, SQUARE = "calls/model/variable_shape.rs", "calls/model/variable_saw.rs", "calls/model/super_square.rs"
+NES, STRING, RENDER = "calls/model/nes_triangle.rs", "calls/model/string_synth.rs", "calls/model/render.rs"
+
+SHAPE_SETTINGS = """frequency_parameter(call.float(FREQUENCY_AT))
+            && frequency_parameter(call.float(MASTER_OR_GAIN_AT))
+            && unit(call.float(WIDTH_OR_SHAPE_AT))
+            && unit(call.float(WAVESHAPE_AT))
+            && within(call.float(PHASE_MODULATION_AT), (-8.0, 8.0))"""
+
+NAMED = [
+    *orders(),
+    *numbers(),
+    (RENDER, "Err(Refusal(DRIFT, sample))", "Drift without its index", "Err(Refusal(DRIFT, 0))"),
+    (RENDER, "Err(Refusal(DRIFT, sample))", "Drift with the index after", "Err(Refusal(DRIFT, sample + 1))"),
+    (
+        RENDER,
+        "state.map(|state| first_outside(state.ramps(call), length))",
+        "the walk goes by parameter first",
+        "state.map(|state| state.ramps(call).into_iter().find_map(|ramp| first_outside([ramp], length)))",
+    ),
+    (
+        RENDER,
+        "state.map(|state| first_outside(state.ramps(call), length))",
+        "an empty block has a step",
+        "state.map(|state| first_outside(state.ramps(call), length.max(1)))",
+    ),
+    (
+        RENDER,
+        "state.map(|state| first_outside(state.ramps(call), length))",
+        "the walk leaves the last sample out",
+        "state.map(|state| first_outside(state.ramps(call), length.saturating_sub(1)))",
+    ),
+    (SHAPE, SHAPE_SETTINGS, "phase modulation tested only with phase output", SHAPE_SETTINGS.replace("within(", "(!call.phase_output() || within(") + ")"),
+    (
+        SHAPE,
+        SHAPE_SETTINGS,
+        "the master's frequency tested only with sync",
+        SHAPE_SETTINGS.replace("frequency_parameter(call.float(MASTER_OR_GAIN_AT))", "(!call.sync() || frequency_parameter(call.float(MASTER_OR_GAIN_AT)))"),
+    ),
+    (SHAPE, SHAPE_SETTINGS, "phase modulation from -16 to 16", SHAPE_SETTINGS.replace("(-8.0, 8.0)", "(-16.0, 16.0)")),
+    (SHAPE, "call.phase_output()", "phase modulation always steps", "true"),
+    (SHAPE, "call.phase_output()", "phase modulation never steps", "false"),
+    (SHAPE, "u32::from(reset.is_some())", "cycles with sync are falls too", "u32::from(reset.is_some()) + counts.falls"),
+    (SHAPE, "counts.cuts = u32::from(self.high)", "a cut for every reset", "counts.cuts = 1"),
+    (SQUARE, "counts.cuts = u32::from(self.high)", "a cut for every reset", "counts.cuts = 1"),
+    (SHAPE, "self.cross(&wave, &mut pair, &mut counts)", "one crossing at most", "if counts.rises + counts.falls == 0 { let mut c = *self; c.cross(&wave, &mut pair, &mut counts); counts.rises = counts.rises.min(1); *self = c }"),
+    (SHAPE, "clipped(call.float(MASTER_OR_GAIN_AT))", "the master not clipped", "call.float(MASTER_OR_GAIN_AT)"),
+    (SHAPE, "clipped(call.float(FREQUENCY_AT))", "the slave not clipped", "call.float(FREQUENCY_AT)"),
+    (SHAPE, "fitting_width(call.float(WIDTH_OR_SHAPE_AT), slave)", "the width fitted to the master", "fitting_width(call.float(WIDTH_OR_SHAPE_AT), master)"),
+    (SHAPE, "fitting_width(call.float(WIDTH_OR_SHAPE_AT), slave)", "the width as it is", "call.float(WIDTH_OR_SHAPE_AT)"),
+    (SAW, "fitting_width(call.float(WIDTH_OR_SHAPE_AT), frequency)", "the width as it is", "call.float(WIDTH_OR_SHAPE_AT)"),
+    (SHAPE, "self.previous_pw = pw", "the previous width kept", "()"),
+    (SAW, "self.previous_pw = wave.pw", "the previous width kept", "()"),
+    (SAW, "self.phase >= 1.0", "a wrap only when high", "self.high && self.phase >= 1.0"),
+    (NES, "MOST_BITS", "bits outside read as 1", "1"),
+    (NES, "MOST_BITS", "bits outside read as 15", "15"),
+    (
+        NES,
+        "self.enter(reached, &stairs, &mix, &mut pair)",
+        "rises counted after the wrap",
+        "{ let old = self.step; let mut c = self.enter(reached, &stairs, &mix, &mut pair); c.rises = u32::from(self.step != old); c }",
+    ),
+    (
+        STRING,
+        "self.enter(reached, steps, &mut pair)",
+        "rises counted after the wrap",
+        "{ let old = self.segment; let mut c = self.enter(reached, steps, &mut pair); c.rises = u32::from(self.segment != old); c }",
+    ),
+    (STRING, "(old + 2.0 * pair.this, counts)", "the buffer overwritten", "(2.0 * pair.this, counts)"),
+    (STRING, "call.float(FREQUENCY_AT) > HIGHEST", "never too high", "false"),
+    ("calls/model/words.rs", "f32::from_bits(word)", "subnormals read as 0", "{ let x = f32::from_bits(word); if x.is_subnormal() { 0.0 } else { x } }"),
+]
