@@ -33,7 +33,8 @@ pub fn first(
     }
 }
 
-/// The same for job list `list`, whose records are told byte by byte.
+/// The same for job list `list`, whose records are told byte by byte. The line that ends its text
+/// stands past the last record.
 pub fn first_of_list(
     list: usize,
     input: &[u8],
@@ -41,7 +42,7 @@ pub fn first_of_list(
     got: &[u8],
 ) -> Result<usize, String> {
     if refused(input) {
-        return match first_line(1, expected, got) {
+        return match first_line(2, expected, got) {
             None => Ok(0),
             Some(differing) => Err(format!(
                 "list {list} differs, which has {} bytes\n{}",
@@ -52,7 +53,7 @@ pub fn first_of_list(
     }
     let mut records = input.chunks(JOB_BYTES);
     let count = records.len();
-    match first_line(count, expected, got) {
+    match first_line(count + 1, expected, got) {
         None => Ok(count),
         Some(differing) => {
             let record = records.nth(differing.number).unwrap_or_default();
@@ -166,23 +167,27 @@ mod tests {
     fn a_list_is_named_with_its_record_and_bytes() {
         let mut list = [0; 128];
         list[64..68].copy_from_slice(&[4, 0, 8, 255]);
-        assert_eq!(first_of_list(3, &list, b"a\nb\n", b"a\nb\n"), Ok(2));
-        let told = first_of_list(3, &list, b"a\nb\n", b"a\nc\n").unwrap_err();
+        let whole = b"a\nb\n-\n";
+        assert_eq!(first_of_list(3, &list, whole, whole), Ok(2));
+        let told = first_of_list(3, &list, whole, b"a\nc\n-\n").unwrap_err();
         let first_lines = "list 3, record 1 differs\n  bytes    040008ff 00000000 ";
         assert!(told.starts_with(first_lines), "{told}");
         assert!(told.ends_with("\n  expected b\n  got      c"), "{told}");
-        assert!(first_of_list(3, &list, b"a\nb\n", b"a\n").is_err());
-        assert!(first_of_list(3, &list, b"a\nb\n", b"a\nb\nc\n").is_err());
+        for got in ["a\n-\n", "a\nb\n", "a\nb\nc\n-\n", "a\nb\n-"] {
+            assert!(first_of_list(3, &list, whole, got.as_bytes()).is_err());
+        }
     }
 
     #[test]
     fn an_empty_list_has_no_line_and_a_refused_one_has_one() {
-        assert_eq!(first_of_list(0, b"", b"", b""), Ok(0));
-        assert!(first_of_list(0, b"", b"", b"\n").is_err());
+        assert_eq!(first_of_list(0, b"", b"-\n", b"-\n"), Ok(0));
+        for got in ["", "\n-\n", "-\n-\n"] {
+            assert!(first_of_list(0, b"", b"-\n", got.as_bytes()).is_err());
+        }
         for length in [1, 63, 65, 65_537, 65_600] {
             let list = vec![0; length];
-            assert_eq!(first_of_list(0, &list, b"8\n", b"8\n"), Ok(0));
-            let told = first_of_list(7, &list, b"8\n", b"").unwrap_err();
+            assert_eq!(first_of_list(0, &list, b"8\n-\n", b"8\n-\n"), Ok(0));
+            let told = first_of_list(7, &list, b"8\n-\n", b"-\n").unwrap_err();
             let whole = format!("list 7 differs, which has {length} bytes\n  expected 8\n");
             assert!(told.starts_with(&whole), "{told}");
         }

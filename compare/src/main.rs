@@ -20,9 +20,9 @@ use std::{env, fs, process};
 include!(concat!(env!("OUT_DIR"), "/source.rs"));
 
 const USAGE: &str = "usage: compare make-leaves COUNT SEED | expect-leaves | \
-    make-calls COUNT SEED [--kinds LIST] | make-recorded-calls | expect-calls [--kinds LIST] [--stats] | \
-    make-lists COUNT SEED DIR | expect-list | expect-lists DIR [--stats] | \
-    first-difference leaves|calls INPUT EXPECTED GOT | first-difference lists DIR";
+    make-calls COUNT SEED [--kinds LIST] | make-recorded-calls | \
+    expect-calls [--kinds LIST] [--stats] | make-lists COUNT SEED | make-recorded-lists | split-lists DIR | expect-list | \
+    expect-lists [--stats] | first-difference leaves|calls|lists INPUT EXPECTED GOT";
 
 fn main() {
     let words: Vec<String> = env::args().skip(1).collect();
@@ -46,22 +46,16 @@ fn run(words: &[&str]) -> Result<(), String> {
             let (kinds, with_stats) = expect_options(options)?;
             expect_calls(&kinds, with_stats)
         }
-        ["first-difference", "leaves", input, expected, got] => {
-            first_difference(leaves::RECORD_BYTES, [input, expected, got])
+        ["make-lists", count, seed] => {
+            make_lists(lists::make::lists(number(count)? as usize, number(seed)?))
         }
-        ["first-difference", "calls", input, expected, got] => {
-            first_difference(RECORD_BYTES, [input, expected, got])
-        }
-        ["make-lists", count, seed, folder] => {
-            lists::folder::make(number(count)? as usize, number(seed)?, Path::new(folder))
-        }
+        ["make-recorded-lists"] => write_out(&lists::make::recorded::stream()),
+        ["split-lists", folder] => split_lists(Path::new(folder)),
         ["expect-list"] => expect_list(),
-        ["expect-lists", folder] => lists::folder::expect(Path::new(folder)).map(|_| ()),
-        ["expect-lists", folder, "--stats"] => {
-            lists::folder::expect(Path::new(folder)).map(|tried| eprint!("{tried}"))
-        }
-        ["first-difference", "lists", folder] => {
-            tell(lists::folder::first_difference(Path::new(folder))?)
+        ["expect-lists"] => expect_lists().map(|_| ()),
+        ["expect-lists", "--stats"] => expect_lists().map(|tried| eprint!("{tried}")),
+        ["first-difference", what, input, expected, got] => {
+            first_difference(what, [input, expected, got])
         }
         #[cfg(library)]
         ["buffers", count, seed] => tell(buffers::compare(number(count)?, number(seed)?)),
@@ -133,12 +127,20 @@ fn expect_calls(kinds: &Kinds, with_stats: bool) -> Result<(), String> {
     out.flush().map_err(cannot_write)
 }
 
-fn first_difference(record_bytes: usize, names: [&str; 3]) -> Result<(), String> {
+fn first_difference(what: &str, names: [&str; 3]) -> Result<(), String> {
     let read = |name: &str| fs::read(name).map_err(|e| format!("cannot read {name}: {e}"));
     let [input, expected, got] = names;
     let (input, expected, got) = (read(input)?, read(expected)?, read(got)?);
-    let found = difference::first(&input, record_bytes, &expected, &got);
-    tell(found.map(|count| format!("{count} records agree")))
+    let of_records = |record_bytes: usize| {
+        let found = difference::first(&input, record_bytes, &expected, &got);
+        found.map(|count| format!("{count} records agree"))
+    };
+    tell(match what {
+        "leaves" => of_records(leaves::RECORD_BYTES),
+        "calls" => of_records(RECORD_BYTES),
+        "lists" => lists::framed::first_difference(&input, &expected, &got),
+        _ => return Err(USAGE.to_string()),
+    })
 }
 
 /// Says that all agree, or the first difference, which ends the program with status 1.
@@ -154,10 +156,39 @@ fn tell(found: Result<String, String>) -> Result<(), String> {
     Ok(())
 }
 
+fn make_lists(lists: impl Iterator<Item = Vec<u8>>) -> Result<(), String> {
+    let mut out = BufWriter::new(io::stdout().lock());
+    for list in lists {
+        let framed = lists::framed::frame(&list);
+        out.write_all(&framed).map_err(cannot_write)?;
+    }
+    out.flush().map_err(cannot_write)
+}
+
+/// Writes each list into a file of its own, for a program that reads one list.
+fn split_lists(folder: &Path) -> Result<(), String> {
+    let cannot = |e: io::Error| format!("cannot write to {}: {e}", folder.display());
+    fs::create_dir_all(folder).map_err(cannot)?;
+    for (number, list) in lists::framed::lists(&read_input()?).iter().enumerate() {
+        fs::write(folder.join(format!("{number:06}.jobs")), list).map_err(cannot)?;
+    }
+    Ok(())
+}
+
 fn expect_list() -> Result<(), String> {
     let text = lists::expect::text(&read_input()?, &mut lists::Tried::default())?;
-    let mut out = io::stdout().lock();
-    out.write_all(text.as_bytes()).map_err(cannot_write)
+    write_out(text.as_bytes())
+}
+
+fn expect_lists() -> Result<lists::Tried, String> {
+    let mut tried = lists::Tried::default();
+    let texts = lists::framed::texts(&read_input()?, &mut tried)?;
+    write_out(&texts)?;
+    Ok(tried)
+}
+
+fn write_out(bytes: &[u8]) -> Result<(), String> {
+    io::stdout().lock().write_all(bytes).map_err(cannot_write)
 }
 
 fn read_input() -> Result<Vec<u8>, String> {

@@ -11,12 +11,16 @@ const BAD_RECORD: &str = "7 0 0 0 0 0";
 
 /// The whole text, a line for each record.
 pub fn text(input: &[u8], tried: &mut Tried) -> Result<String, String> {
+    text_from(Carried::start(), input, tried)
+}
+
+/// The text of a list whose records go on from these states.
+pub fn text_from(mut carried: Carried, input: &[u8], tried: &mut Tried) -> Result<String, String> {
     tried.lists += 1;
     if refused(input) {
         tried.bad_inputs += 1;
         return Ok(BAD_INPUT.to_string());
     }
-    let mut carried = Carried::start();
     let mut text = String::new();
     for (index, record) in input.chunks(JOB_BYTES).enumerate() {
         let line = carried
@@ -28,10 +32,10 @@ pub fn text(input: &[u8], tried: &mut Tried) -> Result<String, String> {
 }
 
 /// The state words of each kind, by its number, as they are carried over a list.
-struct Carried([Vec<u32>; Kinds::COUNT as usize + 1]);
+pub struct Carried(pub [Vec<u32>; Kinds::COUNT as usize + 1]);
 
 impl Carried {
-    fn start() -> Self {
+    pub fn start() -> Self {
         Carried([0, 1, 2, 3, 4, 5].map(|kind| start(kind, true)))
     }
 

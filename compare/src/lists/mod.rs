@@ -2,14 +2,16 @@
 //! renderer prints for a list.
 
 pub mod expect;
-pub mod folder;
+pub mod framed;
 mod job;
-mod make;
+pub mod make;
 mod stats;
 
 pub use job::JOB_BYTES;
 pub use stats::Tried;
 
+#[cfg(test)]
+mod recorded_tests;
 #[cfg(test)]
 mod tests;
 

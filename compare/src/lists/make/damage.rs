@@ -63,7 +63,7 @@ pub fn malformed(kind: u8) -> Vec<Job> {
 }
 
 /// The counts above, and every pair of bits among the lowest 18.
-fn bad_step_counts() -> Vec<u32> {
+pub fn bad_step_counts() -> Vec<u32> {
     let pairs = (1..18).flat_map(|high| (0..high).map(move |low| (1 << high) | (1 << low)));
     let mut counts: Vec<u32> = pairs.chain(STEP_COUNTS).collect();
     counts.sort_unstable();

@@ -13,7 +13,7 @@ const MOST_RECORDS: usize = 1024;
 
 /// Lengths of lists in bytes, around the ends of a record and of what is answered at all.
 const SIZES: [usize; 14] = [
-    0, 1, 63, 64, 65, 127, 128, 65_472, 65_535, 65_536, 65_537, 65_599, 65_600, 131_072,
+    0, 1, 63, 64, 65, 127, 128, 65_472, 65_535, 65_536, 65_537, 65_599, 65_600, 70_000,
 ];
 
 const BLOCK_LENGTHS: [u16; 13] = [
@@ -182,7 +182,7 @@ pub fn drifting(kind: u8) -> Vec<Job> {
 }
 
 /// A step that many steps leave, met by every step count; then the same from fewer and fewer.
-fn depths() -> Vec<Job> {
+pub fn depths() -> Vec<Job> {
     let counts: Vec<u32> = (1..=16).map(|bits| 1 << bits).collect();
     let mut jobs = Vec::new();
     for &before in counts.iter().rev() {

@@ -1,8 +1,12 @@
 //! Job lists: first fixed ones (every length, damage and boundary that matters), then random ones.
 
+pub mod changes;
 pub mod damage;
 pub mod fixed;
+pub mod recorded;
 mod runs;
+pub mod starts;
+pub mod ways;
 
 use super::job::{job, Job};
 use crate::calls::make::fixed::plain;
