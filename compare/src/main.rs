@@ -8,6 +8,7 @@ mod difference;
 mod leaves;
 mod lists;
 mod random;
+mod starts;
 
 use calls::record::{Record, RECORD_BYTES};
 use calls::stats::Stats;
@@ -21,8 +22,10 @@ include!(concat!(env!("OUT_DIR"), "/source.rs"));
 
 const USAGE: &str = "usage: compare make-leaves COUNT SEED | expect-leaves | \
     make-calls COUNT SEED [--kinds LIST] | make-recorded-calls | \
-    expect-calls [--kinds LIST] [--stats] | make-lists COUNT SEED | make-recorded-lists | split-lists DIR | expect-list | \
-    expect-lists [--stats] | first-difference leaves|calls|lists INPUT EXPECTED GOT";
+    expect-calls [--kinds LIST] [--stats] | \
+    make-lists COUNT SEED | make-recorded-lists | split-lists DIR | expect-list | \
+    expect-lists [--stats] | make-starts COUNT SEED | expect-starts | \
+    first-difference leaves|calls|lists|starts INPUT EXPECTED GOT";
 
 fn main() {
     let words: Vec<String> = env::args().skip(1).collect();
@@ -54,6 +57,8 @@ fn run(words: &[&str]) -> Result<(), String> {
         ["expect-list"] => expect_list(),
         ["expect-lists"] => expect_lists().map(|_| ()),
         ["expect-lists", "--stats"] => expect_lists().map(|tried| eprint!("{tried}")),
+        ["make-starts", count, seed] => write_out(&starts::records(number(count)?, number(seed)?)),
+        ["expect-starts"] => expect_starts(),
         ["first-difference", what, input, expected, got] => {
             first_difference(what, [input, expected, got])
         }
@@ -139,6 +144,7 @@ fn first_difference(what: &str, names: [&str; 3]) -> Result<(), String> {
         "leaves" => of_records(leaves::RECORD_BYTES),
         "calls" => of_records(RECORD_BYTES),
         "lists" => lists::framed::first_difference(&input, &expected, &got),
+        "starts" => starts::first_difference(&input, &expected, &got),
         _ => return Err(USAGE.to_string()),
     })
 }
@@ -185,6 +191,10 @@ fn expect_lists() -> Result<lists::Tried, String> {
     let texts = lists::framed::texts(&read_input()?, &mut tried)?;
     write_out(&texts)?;
     Ok(tried)
+}
+
+fn expect_starts() -> Result<(), String> {
+    write_out(starts::text(&read_records(starts::RECORD_BYTES)?).as_bytes())
 }
 
 fn write_out(bytes: &[u8]) -> Result<(), String> {

@@ -11,8 +11,10 @@ pub mod record;
 pub mod stats;
 
 pub use kinds::Kinds;
-pub use line::answer_and_counts;
+pub use line::{answer_and_counts, canonical};
 pub use model::start;
+pub use original::starting_words;
+pub use record::SHAPE;
 
 #[cfg(test)]
 mod tests;

@@ -1,0 +1,87 @@
+// The states that each oscillator starts from: what `new` and `init` give by value, and the words that the exported `init` leaves.
+use crate::fields;
+use crate::text;
+
+pub(crate) fn say_all() {
+    say_variable_shape();
+    say_variable_saw();
+    say_super_square();
+    say_nes_triangle();
+    say_string_synth();
+}
+
+fn say_variable_shape() {
+    let new = fields::of_variable_shape(variable_shape::new());
+    let init = fields::of_variable_shape(variable_shape::init());
+    let exported = exported_variable_shape();
+    text::say_state(b"variable shape, new:", &new);
+    text::say_state(b"variable shape, init:", &init);
+    text::say_state(b"variable shape, exported init:", &exported);
+}
+
+fn say_variable_saw() {
+    let new = fields::of_variable_saw(variable_saw::new());
+    let init = fields::of_variable_saw(variable_saw::init());
+    let exported = exported_variable_saw();
+    text::say_state(b"variable saw, new:", &new);
+    text::say_state(b"variable saw, init:", &init);
+    text::say_state(b"variable saw, exported init:", &exported);
+}
+
+fn say_super_square() {
+    let new = fields::of_super_square(super_square::new());
+    let init = fields::of_super_square(super_square::init());
+    let exported = exported_super_square();
+    text::say_state(b"super square, new:", &new);
+    text::say_state(b"super square, init:", &init);
+    text::say_state(b"super square, exported init:", &exported);
+}
+
+fn say_nes_triangle() {
+    let new = fields::of_nes_triangle(nes_triangle::new());
+    let init = fields::of_nes_triangle(nes_triangle::init());
+    let exported = exported_nes_triangle();
+    text::say_state(b"NES triangle, new:", &new);
+    text::say_state(b"NES triangle, init:", &init);
+    text::say_state(b"NES triangle, exported init:", &exported);
+}
+
+fn say_string_synth() {
+    let new = fields::of_string_synth(string_synth::new());
+    let init = fields::of_string_synth(string_synth::init());
+    let exported = exported_string_synth();
+    text::say_state(b"string synth, new:", &new);
+    text::say_state(b"string synth, init:", &init);
+    text::say_state(b"string synth, exported init:", &exported);
+}
+
+// Before an exported `init` each word has all its bits set, so that one that it leaves alone is seen.
+fn exported_variable_shape() -> [u32; 10] {
+    let mut words = [0xffff_ffffu32; 10];
+    navuloqu::variable_shape::navuloqu_variable_shape_init(&mut words);
+    words
+}
+
+fn exported_variable_saw() -> [u32; 7] {
+    let mut words = [0xffff_ffffu32; 7];
+    navuloqu::variable_saw::navuloqu_variable_saw_init(&mut words);
+    words
+}
+
+fn exported_super_square() -> [u32; 6] {
+    let mut words = [0xffff_ffffu32; 6];
+    navuloqu::super_square::navuloqu_super_square_init(&mut words);
+    words
+}
+
+fn exported_nes_triangle() -> [u32; 5] {
+    let mut words = [0xffff_ffffu32; 5];
+    navuloqu::nes_triangle::navuloqu_nes_triangle_init(&mut words);
+    words
+}
+
+fn exported_string_synth() -> [u32; 8] {
+    let mut words = [0xffff_ffffu32; 8];
+    navuloqu::string_synth::navuloqu_string_synth_init(&mut words);
+    words
+}
