@@ -4,11 +4,11 @@ use super::{Record, STATE_WORDS};
 use crate::calls::{starting_words, SHAPE};
 use crate::random::Random;
 
-/// The word of `high`, which no float is.
+/// Where the word of `high` stands, the only one that is no float.
 const HIGH: usize = 4;
 
-/// Phases that are answered: both zeros, the ends of the subnormal and of the normal numbers, and
-/// the float below 1.
+/// Phases that are answered: both zeros, the ends of the subnormal numbers, the smallest normal one,
+/// 0.25, 0.5, and the two floats below 1.
 const ANSWERED: [u32; 9] = [
     0x0000_0000,
     0x8000_0000,
@@ -21,8 +21,8 @@ const ANSWERED: [u32; 9] = [
     0x3f7f_ffff,
 ];
 
-/// Phases that are refused: 1 and the floats above it, everything below 0, infinities, and NaN,
-/// quiet and signalling, of both signs.
+/// Phases that are refused: 1 and floats above it, floats below 0 from the first one on, infinities,
+/// and NaN, quiet and signalling, of both signs.
 const REFUSED: [u32; 18] = [
     0x3f80_0000,
     0x3f80_0001,
@@ -47,7 +47,7 @@ const REFUSED: [u32; 18] = [
 /// Words that stand for a bool, and words that stand for none.
 const FLAGS: [u32; 7] = [0, 1, 2, 3, 0x3f80_0000, 0x8000_0000, 0xffff_ffff];
 
-/// A quiet NaN, signalling ones, infinities, and numbers outside every range.
+/// NaN, quiet and signalling, infinities, -1 and -0.0.
 const ODD: [u32; 8] = [
     0x7fc0_0000,
     0xffff_ffff,
