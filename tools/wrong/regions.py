@@ -66,8 +66,8 @@ def bodies(ts):
 
 
 class Finder:
-    # A statistic that no line shows.
-    unseen = {"double_rises"}
+    # Statistics that no line shows.
+    unseen = {"double_rises", "tried"}
 
     def __init__(self, ts):
         self.ts, self.found = ts, []
