@@ -8,6 +8,7 @@ mod difference;
 mod leaves;
 mod lists;
 mod random;
+mod records;
 mod starts;
 
 use calls::record::{Record, RECORD_BYTES};
@@ -25,7 +26,8 @@ const USAGE: &str = "usage: compare make-leaves COUNT SEED | expect-leaves | \
     expect-calls [--kinds LIST] [--stats] | \
     make-lists COUNT SEED | make-recorded-lists | split-lists DIR | expect-list | \
     expect-lists [--stats] | make-starts COUNT SEED | expect-starts | \
-    first-difference leaves|calls|lists|starts INPUT EXPECTED GOT";
+    make-records COUNT SEED | expect-records | \
+    first-difference leaves|calls|lists|starts|records INPUT EXPECTED GOT";
 
 fn main() {
     let words: Vec<String> = env::args().skip(1).collect();
@@ -59,6 +61,10 @@ fn run(words: &[&str]) -> Result<(), String> {
         ["expect-lists", "--stats"] => expect_lists().map(|tried| eprint!("{tried}")),
         ["make-starts", count, seed] => write_out(&starts::records(number(count)?, number(seed)?)),
         ["expect-starts"] => expect_starts(),
+        ["make-records", count, seed] => {
+            write_out(&records::records(number(count)?, number(seed)?))
+        }
+        ["expect-records"] => write_out(records::text(&read_input()?).as_bytes()),
         ["first-difference", what, input, expected, got] => {
             first_difference(what, [input, expected, got])
         }
@@ -145,6 +151,7 @@ fn first_difference(what: &str, names: [&str; 3]) -> Result<(), String> {
         "calls" => of_records(RECORD_BYTES),
         "lists" => lists::framed::first_difference(&input, &expected, &got),
         "starts" => starts::first_difference(&input, &expected, &got),
+        "records" => of_records(records::RECORD_BYTES),
         _ => return Err(USAGE.to_string()),
     })
 }

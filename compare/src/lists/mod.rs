@@ -3,7 +3,7 @@
 
 pub mod expect;
 pub mod framed;
-mod job;
+pub mod job;
 pub mod make;
 mod stats;
 
