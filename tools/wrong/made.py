@@ -54,7 +54,7 @@ def wrongs(src):
         if not (src / file).exists():
             continue
         text = (src / file).read_text()
-        fields = [f for f in FIELDS if f in text] if "model" in file else []
+        fields = [f for f in FIELDS if f in text] if "model" in file or file == "lists/job.rs" else []
         for region in regions(text, PASSED_OVER.get(file, ())):
             old = text[slice(*region)]
             place = f"{file}:{text.count(chr(10), 0, region[0]) + 1}"

@@ -102,6 +102,8 @@ NAMED = [
         "a refused record starts its kind anew",
         "*state = if outcome.answer == 0 { outcome.words } else { start(call.kind(), true) }",
     ),
+    ("lists/job.rs", "(byte <= MOST_FLAGS).then_some((byte & 1 != 0, byte & 2 != 0))", "flags exchanged", "(byte <= MOST_FLAGS).then_some((byte & 2 != 0, byte & 1 != 0))"),
+    ("lists/job.rs", "[28, 32, 36, 40, 44, 48, 52].map(|at| word(part, at))", "registration reversed", "[52, 48, 44, 40, 36, 32, 28].map(|at| word(part, at))"),
     ("starts/set.rs", "0.0 <= value && value < 1.0", "1 accepted", "0.0 <= value && value <= 1.0"),
     ("starts/set.rs", "0.0 <= value && value < 1.0", "NaN accepted", "!(value < 0.0) && !(value >= 1.0)"),
     ("starts/set.rs", "0.0 <= value && value < 1.0", "the low end dropped", "value < 1.0"),

@@ -10,6 +10,7 @@ NOTCH = "1 + 0.2 rounds to the same float"
 INSIDE = "no step comes to that end: it goes from a state in the same range to a target well inside"
 LEAST = "no step above 0 is as small as 2^-149"
 BELOW_END = "no step comes to that end: it goes from 17/64 at most (string 17/32) to a target of 0.25 at most (string 0.5)"
+NEXT_ROW = "the next row asks that the byte is 0 of every kind that this one asks it of"
 NEAR_ZERO = "the number compared is 0 or at least 2^-40"
 
 NES, PAIR, RAMP, STRING = "calls/model/nes_triangle.rs", "calls/model/pair.rs", "calls/model/ramp.rs", "calls/model/string_synth.rs"
@@ -59,6 +60,9 @@ REASONS = [
     ("lists/expect.rs", "one float", "vec![0.0; call.length()]", "", "the text shows no sample, and what the buffer holds changes nothing else"),
     ("lists/expect.rs", "one up", "start(kind, true)", "[(0 + 1), 1,", "no oscillator has the kind 0"),
     ("lists/job.rs", "one up", "(2..=MOST_STEPS)", "(MOST_STEPS + 1)", "65,537 has two bits set"),
+    ("lists/job.rs", "one up", "(16..20,", "16..(20 + 1)", NEXT_ROW),
+    ("lists/job.rs", "one up", "(20..24,", "20..(24 + 1)", NEXT_ROW),
+    ("lists/job.rs", "one up", "(28..56,", "28..(56 + 1)", NEXT_ROW),
     ("", "room's high end", "", "..frequency_room", BELOW_END),
     ("", "room's high end", "", "..Room::frequency(", BELOW_END),
     ("", "room's low end one float up", "", "..frequency_room", LEAST),

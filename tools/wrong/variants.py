@@ -241,10 +241,20 @@ def names(e, fields):
             yield "another flag", e.put(i, i + 1, "phase_output" if text == "sync" else "sync")
 
 
+def rows(e):
+    """Two fields of a kind in each other's places, in a table of (kind, place, field)."""
+    found = list(re.finditer(r"\((\w+), (\d+), ", e.text))
+    for i, one in enumerate(found):
+        for other in found[i + 1 :]:
+            if one[1] == other[1]:
+                text = e.text[: one.start(2)] + other[2] + e.text[one.end(2) : other.start(2)] + one[2] + e.text[other.end(2) :]
+                yield "two fields exchanged", text
+
+
 def variants(text, fields):
     """(what, wrong text) of an expression; `fields` are those of the record that its file reads."""
     e, seen = Expression(text), {text}
-    for rule in (regrouped(e), assigned(e), constants(e), comparisons(e), bools(e), ranges(e), rooms(e), names(e, fields)):
+    for rule in (regrouped(e), assigned(e), constants(e), comparisons(e), bools(e), ranges(e), rooms(e), names(e, fields), rows(e)):
         for what, new in rule:
             if new not in seen:
                 seen.add(new)

@@ -7,10 +7,13 @@ use Rattle.calls.proofs.samples.fill.Statement.{statement}
 use Rattle.calls.proofs.samples.fill.Tie as tie
 
 abbrev Inv-loop : tie.InvT-loop
-Inv-loop out₀ levels i₀ out i = length out ≡ length out₀
+Inv-loop out₀ bits levels i₀ out i = length out ≡ length out₀
 
 abbrev μ-loop : tie.MeasureT-loop
-μ-loop out₀ levels i₀ out i = length out₀ - i
+μ-loop out₀ bits levels i₀ out i = length out₀ - i
+
+levels-of-requires : tie.Need-levels-of-requires Inv-loop μ-loop
+levels-of-requires c κs = tt
 
 loop-holds : tie.Need-loop-holds Inv-loop μ-loop
 loop-holds c = omega arith
@@ -48,6 +51,7 @@ fill-spec =
     (tie.spec
     Inv-loop
     μ-loop
+    levels-of-requires
     loop-holds
     mul-out
     array-read-out
