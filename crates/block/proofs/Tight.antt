@@ -1,24 +1,23 @@
--- Every public function's contract determines its outcome: two that satisfy it coincide. Assumes nothing.
-use mathlib.Core.Path.{_≡_}
-use mathlib.Core.Bool.{Bool}
-use Prim.Native.Nat.{ℕ}
-use Rattle.floats.proofs.Contracts.{coincide}
-use Rattle.block.specs.declared.Answer.{Answer}
-use Rattle.block.specs.declared.Counts.{Counts}
-use Rattle.block.specs.Answers.{numberOf, indexOf}
-use Rattle.block.specs.Counting.{noCounts, plus, wrapped, oneIf}
+-- Every public function's contract, as the kit reads it, determines its outcome. Assumes nothing.
+use mathlib.Core.Path.{refl}
+use Rattle.floats.proofs.Contracts.{Determines, coincide}
+use Rattle.block.proofs.number
+use Rattle.block.proofs.index
+use Rattle.block.proofs.none
+use Rattle.block.proofs.sum
+use Rattle.block.proofs.one_if
 
-pub number : (a : Answer) (r q : ℕ) → r ≡ numberOf a → q ≡ numberOf a → r ≡ q
-number a r q h k = coincide h k
+pub number-tight : Determines number.ended number.Reads.Learnt
+number-tight κs a r q v w h k = (coincide h k, refl)
 
-pub index : (a : Answer) (r q : ℕ) → r ≡ indexOf a → q ≡ indexOf a → r ≡ q
-index a r q h k = coincide h k
+pub index-tight : Determines index.ended index.Reads.Learnt
+index-tight κs a r q v w h k = (coincide h k, refl)
 
-pub none : (r q : Counts) → r ≡ noCounts → q ≡ noCounts → r ≡ q
-none r q h k = coincide h k
+pub none-tight : Determines none.ended none.Reads.Learnt
+none-tight κs a r q v w h k = (coincide h k, refl)
 
-pub sum : (a b : Counts) (r q : Counts) → r ≡ wrapped (plus a b) → q ≡ wrapped (plus a b) → r ≡ q
-sum a b r q h k = coincide h k
+pub sum-tight : Determines sum.ended sum.Reads.Learnt
+sum-tight κs a r q v w h k = (coincide h k, refl)
 
-pub one-if : (b : Bool) (r q : ℕ) → r ≡ oneIf b → q ≡ oneIf b → r ≡ q
-one-if b r q h k = coincide h k
+pub one-if-tight : Determines one_if.ended one_if.Reads.Learnt
+one-if-tight κs a r q v w h k = (coincide h k, refl)

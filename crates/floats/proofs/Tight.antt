@@ -1,25 +1,27 @@
--- Every public function's contract determines its outcome: two that satisfy it coincide. Assumes nothing.
-use mathlib.Core.Path.{_≡_}
-use Prim.Native.Nat.{ℕ}
-use lib.Ieee.{Float, binary32, toBits}
-use Rattle.floats.specs.F32.{f32}
-use Rattle.floats.specs.Helpers.{minOf, maxOf, clampOf, absOf}
-use Rattle.floats.proofs.Contracts.{coincide}
+-- Every public function's contract, as the kit reads it, determines its outcome. Assumes nothing.
+use mathlib.Core.Path.{refl}
+use Rattle.floats.proofs.Contracts.{Determines, coincide}
+use Rattle.floats.proofs.min
+use Rattle.floats.proofs.max
+use Rattle.floats.proofs.clamp
+use Rattle.floats.proofs.abs
+use Rattle.floats.proofs.from_bits
+use Rattle.floats.proofs.to_bits
 
-pub min : (x y : Float) (r q : Float) → r ≡ minOf x y → q ≡ minOf x y → r ≡ q
-min x y r q h k = coincide h k
+pub min-tight : Determines min.ended min.Reads.Learnt
+min-tight κs a r q v w h k = (coincide h k, refl)
 
-pub max : (x y : Float) (r q : Float) → r ≡ maxOf x y → q ≡ maxOf x y → r ≡ q
-max x y r q h k = coincide h k
+pub max-tight : Determines max.ended max.Reads.Learnt
+max-tight κs a r q v w h k = (coincide h k, refl)
 
-pub clamp : (x low high : Float) (r q : Float) → r ≡ clampOf x low high → q ≡ clampOf x low high → r ≡ q
-clamp x low high r q h k = coincide h k
+pub clamp-tight : Determines clamp.ended clamp.Reads.Learnt
+clamp-tight κs a r q v w h k = (coincide h k, refl)
 
-pub abs : (x : Float) (r q : Float) → r ≡ absOf x → q ≡ absOf x → r ≡ q
-abs x r q h k = coincide h k
+pub abs-tight : Determines abs.ended abs.Reads.Learnt
+abs-tight κs a r q v w h k = (coincide h k, refl)
 
-pub from-bits : (bits : ℕ) (r q : Float) → r ≡ f32 bits → q ≡ f32 bits → r ≡ q
-from-bits bits r q h k = coincide h k
+pub from-bits-tight : Determines from_bits.ended from_bits.Reads.Learnt
+from-bits-tight κs a r q v w h k = (coincide h k, refl)
 
-pub to-bits : (x : Float) (r q : ℕ) → r ≡ toBits binary32 x → q ≡ toBits binary32 x → r ≡ q
-to-bits x r q h k = coincide h k
+pub to-bits-tight : Determines to_bits.ended to_bits.Reads.Learnt
+to-bits-tight κs a r q v w h k = (coincide h k, refl)

@@ -1,16 +1,15 @@
--- Every public function's contract determines its outcome: two that satisfy it coincide. Assumes nothing.
-use mathlib.Core.Path.{_≡_}
-use Prim.Native.Nat.{ℕ}
-use lib.Ieee.{Float}
-use Rattle.parameter_interpolator.specs.declared.ParameterInterpolator.{ParameterInterpolator}
-use Rattle.parameter_interpolator.specs.Interpolator.{newInterpolator, nextInterpolator, writtenBack}
-use Rattle.floats.proofs.Contracts.{coincide}
+-- Every public function's contract, as the kit reads it, determines its outcome. Assumes nothing.
+use mathlib.Core.Path.{refl}
+use Rattle.floats.proofs.Contracts.{Determines, coincide}
+use Rattle.parameter_interpolator.proofs.ParameterInterpolator.new
+use Rattle.parameter_interpolator.proofs.ParameterInterpolator.next
+use Rattle.parameter_interpolator.proofs.ParameterInterpolator.write_back
 
-pub new : (value newValue : Float) (size : ℕ) (r q : ParameterInterpolator) → r ≡ newInterpolator value newValue size → q ≡ newInterpolator value newValue size → r ≡ q
-new value newValue size r q h k = coincide h k
+pub new-tight : Determines new.ended new.Reads.Learnt
+new-tight κs a r q v w h k = (coincide h k, refl)
 
-pub next : (p : ParameterInterpolator) (r q : ParameterInterpolator) → r ≡ nextInterpolator p → q ≡ nextInterpolator p → r ≡ q
-next p r q h k = coincide h k
+pub next-tight : Determines next.ended next.Reads.Learnt
+next-tight κs a r q v w h k = (coincide h k, refl)
 
-pub write-back : (p : ParameterInterpolator) (r q : Float) → r ≡ writtenBack p → q ≡ writtenBack p → r ≡ q
-write-back p r q h k = coincide h k
+pub write-back-tight : Determines write_back.ended write_back.Reads.Learnt
+write-back-tight κs a r q v w h k = (coincide h k, refl)

@@ -1,17 +1,19 @@
--- Every public function's contract determines its outcome: two that satisfy it coincide. Assumes nothing.
-use mathlib.Core.Path.{_≡_}
-use lib.Ieee.{Float}
-use Rattle.polyblep.specs.Polyblep.{thisBlepSample, nextBlepSample, nextIntegratedBlepSample, thisIntegratedBlepSample}
-use Rattle.floats.proofs.Contracts.{coincide}
+-- Every public function's contract, as the kit reads it, determines its outcome. Assumes nothing.
+use mathlib.Core.Path.{refl}
+use Rattle.floats.proofs.Contracts.{Determines, coincide}
+use Rattle.polyblep.proofs.this_blep_sample
+use Rattle.polyblep.proofs.next_blep_sample
+use Rattle.polyblep.proofs.next_integrated_blep_sample
+use Rattle.polyblep.proofs.this_integrated_blep_sample
 
-pub this-blep-sample : (t : Float) (r q : Float) → r ≡ thisBlepSample t → q ≡ thisBlepSample t → r ≡ q
-this-blep-sample t r q h k = coincide h k
+pub this-blep-sample-tight : Determines this_blep_sample.ended this_blep_sample.Reads.Learnt
+this-blep-sample-tight κs a r q v w h k = (coincide h k, refl)
 
-pub next-blep-sample : (t : Float) (r q : Float) → r ≡ nextBlepSample t → q ≡ nextBlepSample t → r ≡ q
-next-blep-sample t r q h k = coincide h k
+pub next-blep-sample-tight : Determines next_blep_sample.ended next_blep_sample.Reads.Learnt
+next-blep-sample-tight κs a r q v w h k = (coincide h k, refl)
 
-pub next-integrated-blep-sample : (t : Float) (r q : Float) → r ≡ nextIntegratedBlepSample t → q ≡ nextIntegratedBlepSample t → r ≡ q
-next-integrated-blep-sample t r q h k = coincide h k
+pub next-integrated-blep-sample-tight : Determines next_integrated_blep_sample.ended next_integrated_blep_sample.Reads.Learnt
+next-integrated-blep-sample-tight κs a r q v w h k = (coincide h k, refl)
 
-pub this-integrated-blep-sample : (t : Float) (r q : Float) → r ≡ thisIntegratedBlepSample t → q ≡ thisIntegratedBlepSample t → r ≡ q
-this-integrated-blep-sample t r q h k = coincide h k
+pub this-integrated-blep-sample-tight : Determines this_integrated_blep_sample.ended this_integrated_blep_sample.Reads.Learnt
+this-integrated-blep-sample-tight κs a r q v w h k = (coincide h k, refl)

@@ -1,34 +1,39 @@
--- Every public function's contract determines its outcome: two that satisfy it coincide. Assumes nothing.
-use mathlib.Core.Path.{_≡_}
-use mathlib.Core.Bool.{Bool}
-use lib.Ieee.{Float}
-use Rattle.floats.proofs.Contracts.{coincide}
-use Rattle.ranges.specs.Ranges.{within, phaseIn, frequencyIn, parameterFrequencyIn, unitIn, waveshapeIn, sixteenIn}
-use Rattle.ranges.specs.Targets.{clipped, clampedWidth}
+-- Every public function's contract, as the kit reads it, determines its outcome. Assumes nothing.
+use mathlib.Core.Path.{refl}
+use Rattle.floats.proofs.Contracts.{Determines, coincide}
+use Rattle.ranges.proofs.within
+use Rattle.ranges.proofs.phase_in
+use Rattle.ranges.proofs.frequency_in
+use Rattle.ranges.proofs.parameter_frequency_in
+use Rattle.ranges.proofs.unit_in
+use Rattle.ranges.proofs.waveshape_in
+use Rattle.ranges.proofs.sixteen_in
+use Rattle.ranges.proofs.targets.clip
+use Rattle.ranges.proofs.targets.clamp_width
 
-pub within-range : (low high x : Float) (r q : Bool) → r ≡ within low high x → q ≡ within low high x → r ≡ q
-within-range low high x r q h k = coincide h k
+pub within-tight : Determines within.ended within.Reads.Learnt
+within-tight κs a r q v w h k = (coincide h k, refl)
 
-pub phase-in : (x : Float) (r q : Bool) → r ≡ phaseIn x → q ≡ phaseIn x → r ≡ q
-phase-in x r q h k = coincide h k
+pub phase-in-tight : Determines phase_in.ended phase_in.Reads.Learnt
+phase-in-tight κs a r q v w h k = (coincide h k, refl)
 
-pub frequency-in : (x : Float) (r q : Bool) → r ≡ frequencyIn x → q ≡ frequencyIn x → r ≡ q
-frequency-in x r q h k = coincide h k
+pub frequency-in-tight : Determines frequency_in.ended frequency_in.Reads.Learnt
+frequency-in-tight κs a r q v w h k = (coincide h k, refl)
 
-pub parameter-frequency-in : (x : Float) (r q : Bool) → r ≡ parameterFrequencyIn x → q ≡ parameterFrequencyIn x → r ≡ q
-parameter-frequency-in x r q h k = coincide h k
+pub parameter-frequency-in-tight : Determines parameter_frequency_in.ended parameter_frequency_in.Reads.Learnt
+parameter-frequency-in-tight κs a r q v w h k = (coincide h k, refl)
 
-pub unit-in : (x : Float) (r q : Bool) → r ≡ unitIn x → q ≡ unitIn x → r ≡ q
-unit-in x r q h k = coincide h k
+pub unit-in-tight : Determines unit_in.ended unit_in.Reads.Learnt
+unit-in-tight κs a r q v w h k = (coincide h k, refl)
 
-pub waveshape-in : (x : Float) (r q : Bool) → r ≡ waveshapeIn x → q ≡ waveshapeIn x → r ≡ q
-waveshape-in x r q h k = coincide h k
+pub waveshape-in-tight : Determines waveshape_in.ended waveshape_in.Reads.Learnt
+waveshape-in-tight κs a r q v w h k = (coincide h k, refl)
 
-pub sixteen-in : (x : Float) (r q : Bool) → r ≡ sixteenIn x → q ≡ sixteenIn x → r ≡ q
-sixteen-in x r q h k = coincide h k
+pub sixteen-in-tight : Determines sixteen_in.ended sixteen_in.Reads.Learnt
+sixteen-in-tight κs a r q v w h k = (coincide h k, refl)
 
-pub clip : (frequency : Float) (r q : Float) → r ≡ clipped frequency → q ≡ clipped frequency → r ≡ q
-clip frequency r q h k = coincide h k
+pub clip-tight : Determines clip.ended clip.Reads.Learnt
+clip-tight κs a r q v w h k = (coincide h k, refl)
 
-pub clamp-width : (frequency pw : Float) (r q : Float) → r ≡ clampedWidth frequency pw → q ≡ clampedWidth frequency pw → r ≡ q
-clamp-width frequency pw r q h k = coincide h k
+pub clamp-width-tight : Determines clamp_width.ended clamp_width.Reads.Learnt
+clamp-width-tight κs a r q v w h k = (coincide h k, refl)

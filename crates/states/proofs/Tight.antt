@@ -1,43 +1,43 @@
--- The contracts of `new` and `init` determine their outcome: two that satisfy one coincide. Assumes nothing.
-use mathlib.Core.Path.{_≡_}
-use Rattle.floats.proofs.Contracts.{coincide}
-use Rattle.states.specs.declared.super_square.State as SuperSquareState
-use Rattle.states.specs.SuperSquare as SuperSquare
-use Rattle.states.specs.declared.variable_shape.State as VariableShapeState
-use Rattle.states.specs.VariableShape as VariableShape
-use Rattle.states.specs.declared.variable_saw.State as VariableSawState
-use Rattle.states.specs.VariableSaw as VariableSaw
-use Rattle.states.specs.declared.nes_triangle.State as NesTriangleState
-use Rattle.states.specs.NesTriangle as NesTriangle
-use Rattle.states.specs.declared.string_synth.State as StringSynthState
-use Rattle.states.specs.StringSynth as StringSynth
+-- Every public function's contract, as the kit reads it, determines its outcome. Assumes nothing.
+use mathlib.Core.Path.{refl}
+use Rattle.floats.proofs.Contracts.{Determines, coincide}
+use Rattle.states.proofs.super_square.new as super_square_new
+use Rattle.states.proofs.super_square.init as super_square_init
+use Rattle.states.proofs.variable_shape.new as variable_shape_new
+use Rattle.states.proofs.variable_shape.init as variable_shape_init
+use Rattle.states.proofs.variable_saw.new as variable_saw_new
+use Rattle.states.proofs.variable_saw.init as variable_saw_init
+use Rattle.states.proofs.nes_triangle.new as nes_triangle_new
+use Rattle.states.proofs.nes_triangle.init as nes_triangle_init
+use Rattle.states.proofs.string_synth.new as string_synth_new
+use Rattle.states.proofs.string_synth.init as string_synth_init
 
-pub super-square-new : (r q : SuperSquareState.State) → r ≡ SuperSquare.newState → q ≡ SuperSquare.newState → r ≡ q
-super-square-new r q h k = coincide h k
+pub super-square-new-tight : Determines super_square_new.ended super_square_new.Reads.Learnt
+super-square-new-tight κs a r q v w h k = (coincide h k, refl)
 
-pub super-square-init : (r q : SuperSquareState.State) → r ≡ SuperSquare.initState → q ≡ SuperSquare.initState → r ≡ q
-super-square-init r q h k = coincide h k
+pub super-square-init-tight : Determines super_square_init.ended super_square_init.Reads.Learnt
+super-square-init-tight κs a r q v w h k = (coincide h k, refl)
 
-pub variable-shape-new : (r q : VariableShapeState.State) → r ≡ VariableShape.newState → q ≡ VariableShape.newState → r ≡ q
-variable-shape-new r q h k = coincide h k
+pub variable-shape-new-tight : Determines variable_shape_new.ended variable_shape_new.Reads.Learnt
+variable-shape-new-tight κs a r q v w h k = (coincide h k, refl)
 
-pub variable-shape-init : (r q : VariableShapeState.State) → r ≡ VariableShape.initState → q ≡ VariableShape.initState → r ≡ q
-variable-shape-init r q h k = coincide h k
+pub variable-shape-init-tight : Determines variable_shape_init.ended variable_shape_init.Reads.Learnt
+variable-shape-init-tight κs a r q v w h k = (coincide h k, refl)
 
-pub variable-saw-new : (r q : VariableSawState.State) → r ≡ VariableSaw.newState → q ≡ VariableSaw.newState → r ≡ q
-variable-saw-new r q h k = coincide h k
+pub variable-saw-new-tight : Determines variable_saw_new.ended variable_saw_new.Reads.Learnt
+variable-saw-new-tight κs a r q v w h k = (coincide h k, refl)
 
-pub variable-saw-init : (r q : VariableSawState.State) → r ≡ VariableSaw.initState → q ≡ VariableSaw.initState → r ≡ q
-variable-saw-init r q h k = coincide h k
+pub variable-saw-init-tight : Determines variable_saw_init.ended variable_saw_init.Reads.Learnt
+variable-saw-init-tight κs a r q v w h k = (coincide h k, refl)
 
-pub nes-triangle-new : (r q : NesTriangleState.State) → r ≡ NesTriangle.newState → q ≡ NesTriangle.newState → r ≡ q
-nes-triangle-new r q h k = coincide h k
+pub nes-triangle-new-tight : Determines nes_triangle_new.ended nes_triangle_new.Reads.Learnt
+nes-triangle-new-tight κs a r q v w h k = (coincide h k, refl)
 
-pub nes-triangle-init : (r q : NesTriangleState.State) → r ≡ NesTriangle.initState → q ≡ NesTriangle.initState → r ≡ q
-nes-triangle-init r q h k = coincide h k
+pub nes-triangle-init-tight : Determines nes_triangle_init.ended nes_triangle_init.Reads.Learnt
+nes-triangle-init-tight κs a r q v w h k = (coincide h k, refl)
 
-pub string-synth-new : (r q : StringSynthState.State) → r ≡ StringSynth.newState → q ≡ StringSynth.newState → r ≡ q
-string-synth-new r q h k = coincide h k
+pub string-synth-new-tight : Determines string_synth_new.ended string_synth_new.Reads.Learnt
+string-synth-new-tight κs a r q v w h k = (coincide h k, refl)
 
-pub string-synth-init : (r q : StringSynthState.State) → r ≡ StringSynth.initState → q ≡ StringSynth.initState → r ≡ q
-string-synth-init r q h k = coincide h k
+pub string-synth-init-tight : Determines string_synth_init.ended string_synth_init.Reads.Learnt
+string-synth-init-tight κs a r q v w h k = (coincide h k, refl)

@@ -1,9 +1,7 @@
--- Every public function's contract determines its outcome: two that satisfy it coincide. Assumes nothing.
-use mathlib.Core.Path.{_≡_}
-use Prim.Native.Nat.{ℕ}
-use lib.Ieee.{Float}
-use Rattle.whole_part.specs.WholePart.{wholePart}
-use Rattle.floats.proofs.Contracts.{coincide}
+-- Every public function's contract, as the kit reads it, determines its outcome. Assumes nothing.
+use mathlib.Core.Path.{refl}
+use Rattle.floats.proofs.Contracts.{Determines, coincide}
+use Rattle.whole_part.proofs.whole_part
 
-pub whole-part : (x : Float) (r q : ℕ) → r ≡ wholePart x → q ≡ wholePart x → r ≡ q
-whole-part x r q h k = coincide h k
+pub whole-part-tight : Determines whole_part.ended whole_part.Reads.Learnt
+whole-part-tight κs a r q v w h k = (coincide h k, refl)
