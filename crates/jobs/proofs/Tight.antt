@@ -1,14 +1,16 @@
--- Every public function's contract determines its outcome: two that satisfy it coincide. Assumes nothing.
-use mathlib.Core.Path.{_≡_}
+-- Every public function's contract, as the kit reads it, determines its outcome. Assumes nothing.
+use mathlib.Core.Path.{_≡_, refl}
 use mathlib.Core.List.{List}
 use Prim.Native.Nat.{ℕ}
-use Rattle.jobs.specs.declared.Job.{Job}
-use Rattle.jobs.specs.Words.{recordOf}
-use Rattle.jobs.specs.Record.{jobOf}
-use Rattle.floats.proofs.Contracts.{coincide}
+use contract.Lifetimes.{Lfts}
+use denote.Ref.{RefT, now}
+use Rattle.floats.proofs.Contracts.{Determines, coincide}
+use Rattle.jobs.proofs.«record» as part
+use Rattle.jobs.proofs.read
 
-pub record-part : (list : List ℕ) (k : ℕ) (r q : List ℕ) → r ≡ recordOf list k → q ≡ recordOf list k → r ≡ q
-record-part list k r q h e = coincide h e
+-- what is returned is a reference: the bytes that it shows are determined
+pub record-tight : (κs : Lfts 1) (list r q : RefT (List ℕ)) (k : ℕ) → part.Reads.Learnt κs (list, (k, tt)) r (list, (k, tt)) → part.Reads.Learnt κs (list, (k, tt)) q (list, (k, tt)) → now r ≡ now q
+record-tight κs list r q k h e = coincide h e
 
-pub read : (part : List ℕ) (r q : Job) → r ≡ jobOf part → q ≡ jobOf part → r ≡ q
-read part r q h k = coincide h k
+pub read-tight : Determines read.ended read.Reads.Learnt
+read-tight κs a r q v w h k = (coincide h k, refl)
