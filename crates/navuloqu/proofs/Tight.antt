@@ -1,58 +1,49 @@
--- The contract of each exported function determines all: any two outcomes that satisfy it coincide. Assumes nothing.
-use mathlib.Core.Path.{_≡_}
-use mathlib.Core.Bool.{Bool}
-use mathlib.Core.List.{List}
-use Prim.Native.Nat.{ℕ}
-use lib.Ieee.{Float}
-use Rattle.floats.proofs.Contracts.{coincide}
+-- The contract of each exported function, as the kit reads it, determines all: words, result and samples. Assumes nothing.
+use mathlib.Core.Path.{refl, ap}
+use Rattle.floats.proofs.Contracts.{Determines, coincide}
 use Rattle.words.specs.Face.{Face}
-use Rattle.variable_shape_face.specs.Words as shape
 use Rattle.variable_shape_face.specs.Words.{SetFace}
-use Rattle.variable_saw_face.specs.Words as saw
-use Rattle.super_square_face.specs.Words as square
-use Rattle.nes_triangle_face.specs.Words as nes
-use Rattle.string_synth_face.specs.Words as string
+use Rattle.navuloqu.proofs.variable_shape.navuloqu_variable_shape_init as variable_shape_init
+use Rattle.navuloqu.proofs.variable_shape.navuloqu_variable_shape_render as variable_shape_render
+use Rattle.navuloqu.proofs.variable_shape.navuloqu_variable_shape_set_master_phase as variable_shape_set_master_phase
+use Rattle.navuloqu.proofs.variable_saw.navuloqu_variable_saw_init as variable_saw_init
+use Rattle.navuloqu.proofs.variable_saw.navuloqu_variable_saw_render as variable_saw_render
+use Rattle.navuloqu.proofs.super_square.navuloqu_super_square_init as super_square_init
+use Rattle.navuloqu.proofs.super_square.navuloqu_super_square_render as super_square_render
+use Rattle.navuloqu.proofs.nes_triangle.navuloqu_nes_triangle_init as nes_triangle_init
+use Rattle.navuloqu.proofs.nes_triangle.navuloqu_nes_triangle_render as nes_triangle_render
+use Rattle.navuloqu.proofs.string_synth.navuloqu_string_synth_init as string_synth_init
+use Rattle.navuloqu.proofs.string_synth.navuloqu_string_synth_render as string_synth_render
 
--- `init`: the words that it leaves
-pub variable-shape-init : (v w : List ℕ) → v ≡ shape.initWords → w ≡ shape.initWords → v ≡ w
-variable-shape-init v w h k = coincide h k
+pub variable-shape-init-tight : Determines variable_shape_init.ended variable_shape_init.Reads.Learnt
+variable-shape-init-tight κs a r q v w h k = (refl, rw (coincide h k))
 
-pub variable-saw-init : (v w : List ℕ) → v ≡ saw.initWords → w ≡ saw.initWords → v ≡ w
-variable-saw-init v w h k = coincide h k
+pub variable-shape-render-tight : Determines variable_shape_render.ended variable_shape_render.Reads.Learnt
+variable-shape-render-tight κs a r q v w h k = (refl, ap (λ (f : Face). (f .words, (tt, (tt, (tt, (tt, (tt, (tt, (tt, (f .samples, (f .result, tt))))))))))) (coincide h k))
 
-pub super-square-init : (v w : List ℕ) → v ≡ square.initWords → w ≡ square.initWords → v ≡ w
-super-square-init v w h k = coincide h k
+pub variable-shape-set-master-phase-tight : Determines variable_shape_set_master_phase.ended variable_shape_set_master_phase.Reads.Learnt
+variable-shape-set-master-phase-tight κs a r q v w h k = let e = coincide h k in (ap (λ (f : SetFace). f .number) e, ap (λ (f : SetFace). (f .words, (tt, tt))) e)
 
-pub nes-triangle-init : (v w : List ℕ) → v ≡ nes.initWords → w ≡ nes.initWords → v ≡ w
-nes-triangle-init v w h k = coincide h k
+pub variable-saw-init-tight : Determines variable_saw_init.ended variable_saw_init.Reads.Learnt
+variable-saw-init-tight κs a r q v w h k = (refl, rw (coincide h k))
 
-pub string-synth-init : (v w : List ℕ) → v ≡ string.initWords → w ≡ string.initWords → v ≡ w
-string-synth-init v w h k = coincide h k
+pub variable-saw-render-tight : Determines variable_saw_render.ended variable_saw_render.Reads.Learnt
+variable-saw-render-tight κs a r q v w h k = (refl, ap (λ (f : Face). (f .words, (tt, (tt, (tt, (f .samples, (f .result, tt))))))) (coincide h k))
 
--- `render`, from the same words, parameters and samples: the words, the result and the samples that it leaves
-module _ (w : List ℕ) (xs : List Float) (f g : Face) where
-  pub variable-shape-render : (masterFrequency frequency pw waveshape phaseModulation : Float) (sync phaseOutput : Bool)
-      → f ≡ shape.renderFace w masterFrequency frequency pw waveshape phaseModulation sync phaseOutput xs
-      → g ≡ shape.renderFace w masterFrequency frequency pw waveshape phaseModulation sync phaseOutput xs
-      → f ≡ g
-  variable-shape-render masterFrequency frequency pw waveshape phaseModulation sync phaseOutput h k = coincide h k
+pub super-square-init-tight : Determines super_square_init.ended super_square_init.Reads.Learnt
+super-square-init-tight κs a r q v w h k = (refl, rw (coincide h k))
 
-  pub variable-saw-render : (frequency pw waveshape : Float)
-      → f ≡ saw.renderFace w frequency pw waveshape xs → g ≡ saw.renderFace w frequency pw waveshape xs → f ≡ g
-  variable-saw-render frequency pw waveshape h k = coincide h k
+pub super-square-render-tight : Determines super_square_render.ended super_square_render.Reads.Learnt
+super-square-render-tight κs a r q v w h k = (refl, ap (λ (f : Face). (f .words, (tt, (tt, (f .samples, (f .result, tt)))))) (coincide h k))
 
-  pub super-square-render : (frequency shape : Float)
-      → f ≡ square.renderFace w frequency shape xs → g ≡ square.renderFace w frequency shape xs → f ≡ g
-  super-square-render frequency shape h k = coincide h k
+pub nes-triangle-init-tight : Determines nes_triangle_init.ended nes_triangle_init.Reads.Learnt
+nes-triangle-init-tight κs a r q v w h k = (refl, rw (coincide h k))
 
-  pub nes-triangle-render : (frequency : Float) (bits : ℕ)
-      → f ≡ nes.renderFace w frequency bits xs → g ≡ nes.renderFace w frequency bits xs → f ≡ g
-  nes-triangle-render frequency bits h k = coincide h k
+pub nes-triangle-render-tight : Determines nes_triangle_render.ended nes_triangle_render.Reads.Learnt
+nes-triangle-render-tight κs a r q v w h k = (refl, ap (λ (f : Face). (f .words, (tt, (tt, (f .samples, (f .result, tt)))))) (coincide h k))
 
-  pub string-synth-render : (frequency : Float) (registration : List Float) (gain : Float)
-      → f ≡ string.renderFace w frequency registration gain xs → g ≡ string.renderFace w frequency registration gain xs → f ≡ g
-  string-synth-render frequency registration gain h k = coincide h k
+pub string-synth-init-tight : Determines string_synth_init.ended string_synth_init.Reads.Learnt
+string-synth-init-tight κs a r q v w h k = (refl, rw (coincide h k))
 
--- `set_master_phase`: the words that it leaves, and the number that it answers
-pub variable-shape-set-master-phase : (w : List ℕ) (phase : Float) (f g : SetFace) → f ≡ shape.setFace w phase → g ≡ shape.setFace w phase → f ≡ g
-variable-shape-set-master-phase w phase f g h k = coincide h k
+pub string-synth-render-tight : Determines string_synth_render.ended string_synth_render.Reads.Learnt
+string-synth-render-tight κs a r q v w h k = (refl, ap (λ (f : Face). (f .words, (tt, (tt, (tt, (f .samples, (f .result, tt))))))) (coincide h k))

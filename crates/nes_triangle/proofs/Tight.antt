@@ -1,17 +1,9 @@
--- The contract of `render` determines all: any two outcomes that satisfy it coincide. Assumes nothing.
-use mathlib.Core.Path.{_≡_}
-use mathlib.Core.List.{List}
-use Prim.Native.Nat.{ℕ}
-use lib.Ieee.{Float}
-use Rattle.floats.proofs.Contracts.{coincide}
+-- The contract of `render`, as the kit reads it, determines all: answer, state, counts and buffer. Assumes nothing.
+use Rattle.floats.proofs.Contracts.{Determines, coincide}
 use Rattle.block.proofs.Contracts.{same-outcome}
-use Rattle.states.specs.declared.nes_triangle.State.{State}
-use Rattle.nes_triangle.specs.declared.Rendered.{Rendered}
-use Rattle.nes_triangle.specs.Block.{renderOf, left}
+use Rattle.nes_triangle.proofs.render
 
--- two calls with the same arguments: what they return is equal field by field, and so are the buffers that they leave
-pub tight : (s : State) (frequency : Float) (bits : ℕ) (xs : List Float) (r q : Rendered) (ys zs : List Float)
-    → left r ys ≡ renderOf s frequency bits xs → left q zs ≡ renderOf s frequency bits xs → (r ≡ q) × (ys ≡ zs)
-tight s frequency bits xs r q ys zs h k =
+pub render-tight : Determines render.ended render.Reads.Learnt
+render-tight κs a r q v w h k =
     let o = same-outcome (r .answer) (q .answer) _ _ _ _ _ _ (coincide h k) in
-    (rw (o .0, o .1, o .2), o .3)
+    (rw (o .0, o .1, o .2), rw (o .3))

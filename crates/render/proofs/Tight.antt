@@ -1,11 +1,11 @@
--- The contract of `render` determines all: any two outcomes that satisfy it coincide. Assumes nothing.
-use mathlib.Core.Path.{_≡_, refl, sym, ap, _∙_}
-use mathlib.Core.List.{List}
-use Prim.Native.Nat.{ℕ}
+-- The contract of `render`, as the kit reads it, determines all: number, length and text. Assumes nothing.
+use mathlib.Core.Path.{_≡_, refl, ap}
 use native.Mathlib.Omega.{arith}
+use Rattle.floats.proofs.Contracts.{Determines, coincide}
 use Rattle.render.specs.declared.Written.{Written}
 use Rattle.render.specs.declared.Written.the-variants.{Text, NoRoom}
-use Rattle.render.specs.Lists.{Handed, textOf, written, numberOf, countOf, left}
+use Rattle.render.specs.Lists.{Handed, numberOf, countOf}
+use Rattle.render.proofs.render
 
 same-written : (r q : Written) → numberOf r ≡ numberOf q → countOf r ≡ countOf q → r ≡ q
 same-written (Text n) (Text m) h k = ap Text k
@@ -13,7 +13,7 @@ same-written (Text n) NoRoom h k = absurd (omega (arith, h))
 same-written NoRoom (Text m) h k = absurd (omega (arith, h))
 same-written NoRoom NoRoom h k = refl
 
-pub tight : (list d : List ℕ) (r q : Written) (e f : List ℕ) → left r e ≡ written (textOf list) d → left q f ≡ written (textOf list) d → (r ≡ q) × (e ≡ f)
-tight list d r q e f h k =
-    let same : left r e ≡ left q f = h ∙ sym k in
-    (same-written r q (ap (λ (x : Handed). x .number) same) (ap (λ (x : Handed). x .count) same), ap (λ (x : Handed). x .buffer) same)
+pub render-tight : Determines render.ended render.Reads.Learnt
+render-tight κs a r q v w h k =
+    let same = coincide h k in
+    (same-written r q (ap (λ (x : Handed). x .number) same) (ap (λ (x : Handed). x .count) same), ap (λ (x : Handed). (tt, (x .buffer, tt))) same)

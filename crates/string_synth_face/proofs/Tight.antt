@@ -1,17 +1,12 @@
--- The contract of each public function determines all: any two outcomes that satisfy it coincide. Assumes nothing.
-use mathlib.Core.Path.{_≡_}
-use mathlib.Core.List.{List}
-use Prim.Native.Nat.{ℕ}
-use lib.Ieee.{Float}
-use Rattle.floats.proofs.Contracts.{coincide}
+-- Every public function's contract, as the kit reads it, determines all: words, result and samples. Assumes nothing.
+use mathlib.Core.Path.{refl, ap}
+use Rattle.floats.proofs.Contracts.{Determines, coincide}
 use Rattle.words.specs.Face.{Face}
-use Rattle.string_synth_face.specs.Words.{initWords, renderFace}
+use Rattle.string_synth_face.proofs.init
+use Rattle.string_synth_face.proofs.render
 
--- `init`: the words that it leaves
-pub init : (v w : List ℕ) → v ≡ initWords → w ≡ initWords → v ≡ w
-init v w h k = coincide h k
+pub init-tight : Determines init.ended init.Reads.Learnt
+init-tight κs a r q v w h k = (refl, rw (coincide h k))
 
--- `render`, from the same words, parameters and samples: the words, the result and the samples that it leaves
-pub render : (w : List ℕ) (frequency : Float) (registration : List Float) (gain : Float) (xs : List Float) (f g : Face)
-    → f ≡ renderFace w frequency registration gain xs → g ≡ renderFace w frequency registration gain xs → f ≡ g
-render w frequency registration gain xs f g h k = coincide h k
+pub render-tight : Determines render.ended render.Reads.Learnt
+render-tight κs a r q v w h k = (refl, ap (λ (f : Face). (f .words, (tt, (tt, (tt, (f .samples, (f .result, tt))))))) (coincide h k))

@@ -1,5 +1,4 @@
 -- The contract of `render`, as the kit reads it, determines all: answer, state, counts and buffer. Assumes nothing.
-use mathlib.Core.Path.{_≡_, ap}
 use Rattle.floats.proofs.Contracts.{Determines, coincide}
 use Rattle.block.proofs.Contracts.{same-outcome}
 use Rattle.super_square.proofs.render

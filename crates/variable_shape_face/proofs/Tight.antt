@@ -1,22 +1,17 @@
--- The contract of each public function determines all: any two outcomes that satisfy it coincide. Assumes nothing.
-use mathlib.Core.Path.{_≡_}
-use mathlib.Core.Bool.{Bool}
-use mathlib.Core.List.{List}
-use Prim.Native.Nat.{ℕ}
-use lib.Ieee.{Float}
-use Rattle.floats.proofs.Contracts.{coincide}
+-- Every public function's contract, as the kit reads it, determines all: words, result and samples. Assumes nothing.
+use mathlib.Core.Path.{refl, ap}
+use Rattle.floats.proofs.Contracts.{Determines, coincide}
 use Rattle.words.specs.Face.{Face}
-use Rattle.variable_shape_face.specs.Words.{initWords, renderFace, SetFace, setFace}
+use Rattle.variable_shape_face.specs.Words.{SetFace}
+use Rattle.variable_shape_face.proofs.init
+use Rattle.variable_shape_face.proofs.render
+use Rattle.variable_shape_face.proofs.set_master_phase
 
--- `init`: the words that it leaves
-pub init : (v w : List ℕ) → v ≡ initWords → w ≡ initWords → v ≡ w
-init v w h k = coincide h k
+pub init-tight : Determines init.ended init.Reads.Learnt
+init-tight κs a r q v w h k = (refl, rw (coincide h k))
 
--- `render`, from the same words, parameters and samples: the words, the result and the samples that it leaves
-pub render : (w : List ℕ) (masterFrequency frequency pw waveshape phaseModulation : Float) (sync phaseOutput : Bool) (xs : List Float) (f g : Face)
-    → f ≡ renderFace w masterFrequency frequency pw waveshape phaseModulation sync phaseOutput xs → g ≡ renderFace w masterFrequency frequency pw waveshape phaseModulation sync phaseOutput xs → f ≡ g
-render w masterFrequency frequency pw waveshape phaseModulation sync phaseOutput xs f g h k = coincide h k
+pub render-tight : Determines render.ended render.Reads.Learnt
+render-tight κs a r q v w h k = (refl, ap (λ (f : Face). (f .words, (tt, (tt, (tt, (tt, (tt, (tt, (tt, (f .samples, (f .result, tt))))))))))) (coincide h k))
 
--- `set_master_phase`: the words that it leaves, and the number that it answers
-pub set-master-phase : (w : List ℕ) (phase : Float) (f g : SetFace) → f ≡ setFace w phase → g ≡ setFace w phase → f ≡ g
-set-master-phase w phase f g h k = coincide h k
+pub set-master-phase-tight : Determines set_master_phase.ended set_master_phase.Reads.Learnt
+set-master-phase-tight κs a r q v w h k = let e = coincide h k in (ap (λ (f : SetFace). f .number) e, ap (λ (f : SetFace). (f .words, (tt, tt))) e)
