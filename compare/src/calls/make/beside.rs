@@ -9,8 +9,8 @@ const STEP: f32 = 0.125;
 
 pub fn beside(kind: u8) -> Vec<Record> {
     match kind {
-        SHAPE => [shapes(), widths(SHAPE, 7)].concat(),
-        SAW => [saws(), widths(SAW, 5)].concat(),
+        SHAPE => [shapes(), widths(SHAPE, 7), overflows(SHAPE)].concat(),
+        SAW => [saws(), widths(SAW, 5), overflows(SAW)].concat(),
         SUPER_SQUARE => [squares(), factors()].concat(),
         NES => [stairs(), tiny_stairs(), bits_outside()].concat(),
         STRING => [segments(), tiny_gains(), buffers()].concat(),
@@ -124,6 +124,29 @@ fn widths(kind: u8, word: usize) -> Vec<Record> {
         record.set_float(MASTER_OR_GAIN_AT, LOW);
     }
     state(&mut record, &[(word, 1.0f32.next_down())]);
+    vec![record]
+}
+
+/// A rise so long before the sample that the fourth power of its time overflows, and meets a slope
+/// that changes by 0: the sample is NaN, though nothing is divided by 0.
+fn overflows(kind: u8) -> Vec<Record> {
+    let (phase, previous, frequency, width, waveshape) = match kind {
+        SHAPE => (1, 3, 6, 7, 8),
+        _ => (0, 2, 4, 5, 6),
+    };
+    let low = f32::from_bits(0x3588_0001);
+    let shape = if kind == SHAPE { 0.5 } else { 0.0 };
+    let mut record = plain(kind);
+    record.set_length(1);
+    record.set_float(FREQUENCY_AT, low);
+    record.set_float(WIDTH_OR_SHAPE_AT, 0.5);
+    record.set_float(WAVESHAPE_AT, shape);
+    let before = f32::from_bits(0x3eff_ffde);
+    state(&mut record, &[(phase, 0.9), (previous, before)]);
+    state(
+        &mut record,
+        &[(frequency, low), (width, 0.5), (waveshape, shape)],
+    );
     vec![record]
 }
 
