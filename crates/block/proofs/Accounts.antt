@@ -21,7 +21,8 @@ use Rattle.block.specs.Counting.{plus}
 use Rattle.rooms.specs.Steps.{moved, values, stepsOf, firstOutside}
 use Rattle.block.specs.Play.{Sample, Heard, play}
 use Rattle.block.specs.Calls.{Call}
-use Rattle.block.specs.Account.{sumUnits, Accounted, column, chain}
+use Rattle.block.specs.Account.{sumUnits, Accounted, chain}
+use Rattle.block.specs.Oscillator.{column}
 use Rattle.rooms.proofs.Padding.{moved-length}
 use Rattle.block.proofs.Plays.{Inside, Keeps, nowhere-first}
 
@@ -94,6 +95,21 @@ steps-none {a = a} w e p = record { a = a; b = a; n = 0; first-at = p; sums = no
 
 pub steps-one : {w e cycles : ℕ} {p f q : Float} → OneSample w e p f cycles q → Steps w e p cycles q (f ∷ [])
 steps-one r = record { a = r .a; b = r .n; n = r .b + 0; first-at = r .first-at; sums = more (r .step-at) none; last-at = r .last-at; account = omega (arith, r .account) }
+
+-- from one state to another, the cycles counted and the steps used: nothing happened, or the steps are accounted for
+pub data Told {S : Type 0} (phase : S → Float) (w e : ℕ) (s : S) : S → ℕ → List Float → Type 0 where
+  stood : Told phase w e s s 0 []
+  went : {t : S} {cycles : ℕ} {steps : List Float} → Steps w e (phase s) cycles (phase t) steps → Told phase w e s t cycles steps
+
+module _ {S : Type 0} {phase : S → Float} {w e : ℕ} where
+  pub told-accounted : {s t : S} {cycles : ℕ} {steps : List Float} → Told phase w e s t cycles steps → Accounted w e (phase s) cycles (phase t) steps
+  told-accounted {s} stood = nothing w e (phase s)
+  told-accounted (went r) = steps-accounted r
+
+  pub told-join : {s t u : S} {c k : ℕ} {xs ys : List Float} → Told phase w e s t c xs → Told phase w e t u k ys → Told phase w e s u (c + k) (xs ++ ys)
+  told-join {s} {u = u} {k = k} {ys = ys} stood r = subst (λ (n : ℕ). Told phase w e s u n ys) (sym (zero-add k)) r
+  told-join (went r) stood = went (steps-join r (steps-none w e (r .last-at)))
+  told-join (went r) (went q) = went (steps-join r q)
 
 -- ---- a block
 module _ {S : Type 0} (make : S → List Float → Float → Sample S) (rooms : List Room) (Ok : S → Type 0) (keeps : Keeps make rooms Ok) (phase : S → Float) (k w e : ℕ)

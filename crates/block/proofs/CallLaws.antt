@@ -20,15 +20,14 @@ use Rattle.block.specs.Counting.{noCounts}
 use Rattle.rooms.specs.Steps.{stepsOf, firstOutside}
 use Rattle.block.specs.Play.{Sample, play}
 use Rattle.block.specs.Calls.{Call, refusal, done, run}
-use Rattle.block.specs.Account.{column, usedBy, Balanced, sampleCounts, EachLimited}
-use Rattle.block.proofs.Plays.{Few, few-none, Inside, Keeps}
+use Rattle.block.specs.Account.{usedBy}
+use Rattle.block.specs.Limits.{Balanced, EachLimited}
+use Rattle.block.specs.Oscillator.{column, sampleCounts}
+use Rattle.block.proofs.Plays.{few-none, few-most, Inside, Keeps}
+use Rattle.block.specs.Limits.{Few}
 use Rattle.block.proofs.Runs.{run-drift, run-done}
 use Rattle.block.proofs.Accounts.{OneSample, Steps, steps-none, block-law, CallLaw, Untouched}
 use Rattle.block.proofs.Limits.{block-limited, block-few, block-balance}
-
--- few counts are few of more samples too
-pub few-most : {m n : ℕ} {c : Counts} → m ≤ n → Few m c → Few n c
-few-most h f = record { cycles = omega (arith, f .cycles); rises = omega (arith, f .rises); falls = omega (arith, f .falls); cuts = omega (arith, f .cuts) }
 
 -- a refusal, whichever its number, leaves the state, counts nothing and uses no step
 pub refusal-untouched : {S : Type 0} (k number index : ℕ) → eqb number 0 ≡ false → (s : S) (xs : List Float) (n : ℕ) (ps : List ParameterInterpolator)

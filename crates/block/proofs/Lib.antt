@@ -2,9 +2,12 @@
 pub mod Plays
 pub mod InsideAt
 pub mod Runs
+pub mod Ways
 pub mod Accounts
 pub mod Limits
 pub mod CallLaws
 pub mod Neither
+pub mod Blocks
+pub mod Oscillators
 pub mod Contracts
 pub mod Tight

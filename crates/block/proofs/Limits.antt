@@ -13,9 +13,11 @@ use Rattle.rooms.specs.declared.Found.the-variants.{Nowhere}
 use Rattle.block.specs.Counting.{plus, total, oneIf}
 use Rattle.rooms.specs.Steps.{moved, values, stepsOf, firstOutside}
 use Rattle.block.specs.Play.{Sample, play}
-use Rattle.block.specs.Account.{Balanced, sampleCounts, Limited, EachLimited}
+use Rattle.block.specs.Limits.{Balanced, Limited, EachLimited}
+use Rattle.block.specs.Oscillator.{sampleCounts}
 use Rattle.rooms.proofs.Padding.{moved-length}
-use Rattle.block.proofs.Plays.{Few, few-more, Inside, Keeps, nowhere-first}
+use Rattle.block.proofs.Plays.{few-more, Inside, Keeps, nowhere-first}
+use Rattle.block.specs.Limits.{Few}
 
 pub one-most : (b : Bool) → oneIf b ≤ 1
 one-most true = omega arith

@@ -12,18 +12,15 @@ use Rattle.block.specs.declared.Counts.{Counts}
 use Rattle.block.specs.Counting.{noCounts}
 use Rattle.block.specs.Play.{Sample, play}
 use Rattle.block.specs.Calls.{run}
+use Rattle.block.specs.Limits.{NeitherFallsNorCuts}
 use Rattle.block.proofs.Runs.{run-drift, run-done}
-
-pub record NeitherFallsNorCuts (c : Counts) : Type 0 where
-  pub falls : c .falls ≡ 0
-  pub cuts : c .cuts ≡ 0
 
 pub neither-none : NeitherFallsNorCuts noCounts
 neither-none = record { falls = refl; cuts = refl }
 
 module _ {S : Type 0} (make : S → List Float → Float → Sample S) (one : (s : S) (steps : List Float) (x : Float) → NeitherFallsNorCuts (make s steps x .counts)) where
   -- however many samples follow
-  play-neither : (steps : List (List Float)) (s : S) (c : Counts) (xs : List Float) → NeitherFallsNorCuts c → NeitherFallsNorCuts (play make s c steps xs .counts)
+  pub play-neither : (steps : List (List Float)) (s : S) (c : Counts) (xs : List Float) → NeitherFallsNorCuts c → NeitherFallsNorCuts (play make s c steps xs .counts)
   unfolding play
   play-neither [] s c xs h = h
   play-neither (step ∷ steps) s c [] h = h

@@ -6,10 +6,9 @@ use Prim.Native.Nat.{ℕ, suc, _+_, _-_, _*_, _%_, _^_, _≤_, _<_}
 use native.Mathlib.Numerals.{add-one}
 use native.Mathlib.Nat.{mod-eq-of-lt}
 use native.Mathlib.Omega.{arith}
-use lib.Dec.{T}
 use lib.ListN.{length, getD, take, drop, set, length-set, drop-of-length-le}
 use lib.Seq.{drop-cons, take-suc-set, drop-set-lt, take-all, append-snoc}
-use lib.Ieee.{Float, nan, binary32, fits}
+use lib.Ieee.{Float, nan, binary32}
 use lib.Ieee.Fits.{add-fits}
 use Rattle.parameter_interpolator.specs.declared.ParameterInterpolator.{ParameterInterpolator}
 use Rattle.block.specs.declared.Counts.{Counts}
@@ -19,14 +18,9 @@ use Rattle.rooms.specs.declared.Found.the-variants.{Outside, Nowhere}
 use Rattle.block.specs.Counting.{noCounts, plus, wrapped}
 use Rattle.rooms.specs.Steps.{moved, values, stepsOf, allIn, later, firstOutside}
 use Rattle.block.specs.Play.{Sample, Heard, play}
+use Rattle.block.specs.Limits.{Few}
+use Rattle.block.specs.Account.{AllFit}
 use Rattle.rooms.proofs.Padding.{moved-length, values-length}
-
--- at most n samples' worth of counts
-pub record Few (n : ℕ) (c : Counts) : Type 0 where
-  pub cycles : c .cycles ≤ n
-  pub rises : c .rises ≤ 2 * n
-  pub falls : c .falls ≤ n
-  pub cuts : c .cuts ≤ n
 
 pub few-none : Few 0 noCounts
 few-none = record { cycles = omega arith; rises = omega arith; falls = omega arith; cuts = omega arith }
@@ -39,6 +33,10 @@ few-more x y = record {
   cuts = omega (arith, x .cuts, y .cuts);
 }
 
+-- few counts are few of more samples too
+pub few-most : {m n : ℕ} {c : Counts} → m ≤ n → Few m c → Few n c
+few-most h f = record { cycles = omega (arith, f .cycles); rises = omega (arith, f .rises); falls = omega (arith, f .falls); cuts = omega (arith, f .cuts) }
+
 -- so few that 32 bits hold them
 in-32 : (n : ℕ) → n ≤ 8194 → n % 2 ^ 32 ≡ n
 in-32 n h = mod-eq-of-lt {n = n} {m = 2 ^ 32} (omega arith)
@@ -47,12 +45,7 @@ pub few-fit : {i : ℕ} {c : Counts} → i ≤ 4097 → Few i c → wrapped c �
 few-fit {i} {c} h f =
     rw (in-32 (c .cycles) (omega (arith, f .cycles)), in-32 (c .rises) (omega (arith, f .rises)), in-32 (c .falls) (omega (arith, f .falls)), in-32 (c .cuts) (omega (arith, f .cuts)))
 
--- each of these is a binary32 value
-abbrev pub AllFit : List Float → Type 0
-AllFit [] = Unit {0}
-AllFit (x ∷ xs) = T (fits binary32 x) × AllFit xs
-
--- as every step that an interpolator gives is
+-- every step that an interpolator gives is a binary32 value
 pub steps-fit : (ps : List ParameterInterpolator) → AllFit (values (moved ps))
 unfolding values moved
 steps-fit [] = tt

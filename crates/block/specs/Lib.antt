@@ -3,5 +3,8 @@ pub mod Answers
 pub mod Counting
 pub mod Play
 pub mod Calls
+pub mod Checks
+pub mod Oscillator
 pub mod Fit
+pub mod Limits
 pub mod Account

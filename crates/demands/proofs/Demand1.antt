@@ -12,10 +12,11 @@ use lib.Ieee.{Float, lt, le}
 use Rattle.floats.specs.F32.{zero32, half32, one32, four32}
 use Rattle.ranges.specs.Ranges.{within}
 use Rattle.block.specs.Calls.{Call, refusal}
+use Rattle.block.specs.Oscillator.{callOf}
 use Rattle.block.proofs.CallLaws.{run-refused}
+use Rattle.block.proofs.Oscillators.{answered-or-as-given}
 use Rattle.states.specs.declared.super_square.State as SuperSquareState
 use Rattle.super_square.specs.Block as SuperSquare
-use Rattle.super_square.proofs.Phase as SuperSquarePhase
 use Rattle.states.specs.declared.variable_shape.State as ShapeState
 use Rattle.variable_shape.specs.Block as Shape
 use Rattle.variable_shape.proofs.Phase as ShapePhase
@@ -34,8 +35,8 @@ use Rattle.string_synth.proofs.Accepted as Accepted
 abbrev pub AnsweredOrAsGiven : {S : Type 0} → S → List Float → Call S → Type 0
 AnsweredOrAsGiven s xs c = (c .number ≡ 0) ⊎ (c ≡ refusal (c .number) (c .index) s xs)
 
-pub super-square : (s : SuperSquareState.State) (a : SuperSquare.Arguments) → AnsweredOrAsGiven s (a .buffer) (SuperSquare.callOf s a)
-super-square s a = SuperSquarePhase.by-ways s a (AnsweredOrAsGiven s (a .buffer)) (λ number h. inr refl) (run-refused _ _ _ s (a .buffer))
+pub super-square : (s : SuperSquareState.State) (a : SuperSquare.Arguments) → AnsweredOrAsGiven s (a .buffer) (callOf SuperSquare.superSquare s a)
+super-square s a = answered-or-as-given SuperSquare.superSquare s a
 
 pub variable-shape : (sync : Bool) (s : ShapeState.State) (a : Shape.Arguments) → AnsweredOrAsGiven s (a .buffer) (Shape.callOf sync s a)
 variable-shape sync s a = ShapePhase.by-ways sync s a (AnsweredOrAsGiven s (a .buffer)) (λ number h. inr refl) (run-refused _ _ _ s (a .buffer))

@@ -12,7 +12,9 @@ use Rattle.block.specs.Counting.{noCounts}
 use Rattle.rooms.specs.Steps.{stepsOf}
 use Rattle.block.specs.Play.{Sample, play}
 use Rattle.block.specs.Calls.{Call, done}
+use Rattle.block.specs.Oscillator.{callOf}
 use Rattle.block.proofs.CallLaws.{run-answered, not-done}
+use Rattle.block.proofs.Oscillators.{answered-samples}
 use Rattle.states.specs.declared.super_square.State as SuperSquareState
 use Rattle.super_square.specs.Sample as SuperSquareSample
 use Rattle.super_square.specs.Block as SuperSquare
@@ -39,8 +41,8 @@ abbrev pub Samples : {S : Type 0} → (S → List Float → Float → Sample S) 
 Samples make ps s xs c = c .number ≡ 0 → c ≡ done (play make s noCounts (stepsOf (length xs) ps) xs)
 
 pub super-square : (s : SuperSquareState.State) (a : SuperSquare.Arguments)
-    → Samples SuperSquareSample.sampleAt (SuperSquare.interpolators s (a .frequency) (a .shape) (length (a .buffer))) s (a .buffer) (SuperSquare.callOf s a)
-super-square s a = SuperSquarePhase.by-ways s a (Samples _ _ s (a .buffer)) (λ number h e. not-done number h e) (run-answered _ _ _ s (a .buffer))
+    → Samples SuperSquareSample.sampleAt (SuperSquare.interpolators s (a .frequency) (a .shape) (length (a .buffer))) s (a .buffer) (callOf SuperSquare.superSquare s a)
+super-square s a = answered-samples SuperSquarePhase.laws s a
 
 pub variable-shape : (sync : Bool) (s : ShapeState.State) (a : Shape.Arguments)
     → Samples (ShapeSample.sampleAt sync (a .phase-output)) (Shape.stepping (a .phase-output) (Shape.movingOf s a)) s (a .buffer) (Shape.callOf sync s a)

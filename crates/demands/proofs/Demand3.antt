@@ -6,7 +6,11 @@ use mathlib.Core.Path.{_≡_}
 use mathlib.Core.Bool.{Bool}
 use mathlib.Core.List.{List}
 use Prim.Native.Nat.{_^_}
-use Rattle.block.specs.Account.{Accounted, chain, EachLimited}
+use Rattle.floats.proofs.Ticks.{tick}
+use Rattle.block.specs.Account.{Accounted, chain, Phases32}
+use Rattle.block.specs.Oscillator.{callOf, countsOf, chainOf}
+use Rattle.block.proofs.Oscillators.{chain-accounted, samples-limited}
+use Rattle.block.specs.Limits.{EachLimited}
 use Rattle.states.specs.declared.super_square.State as SuperSquareState
 use Rattle.super_square.specs.Block as SuperSquare
 use Rattle.super_square.proofs.Phase as SuperSquarePhase
@@ -24,9 +28,10 @@ use Rattle.string_synth.specs.Block as String
 use Rattle.string_synth.proofs.Phase as StringPhase
 
 -- the super square's phase is the master's
-pub super-square : (s : SuperSquareState.State) (calls : List SuperSquare.Arguments) → SuperSquare.Phases32 s
-    → (let r = chain SuperSquare.callOf SuperSquare.usedOf s calls in Accounted (2 ^ 149) (2 ^ 125) (s .«master_phase») (r .cycles) (r .state .«master_phase») (r .steps))
-super-square = SuperSquarePhase.chain-accounted
+pub super-square : (s : SuperSquareState.State) (calls : List SuperSquare.Arguments) → Phases32 SuperSquare.superSquare s
+    → (let r = chainOf SuperSquare.superSquare s calls in Accounted (2 ^ 149) (2 ^ 125) (s .«master_phase») (r .cycles) (r .state .«master_phase») (r .steps))
+unfolding tick
+super-square s calls f = chain-accounted SuperSquarePhase.laws s f calls
 
 -- the variable shape's is the master's with sync and the slave's without; `sync` is one for the whole chain
 pub variable-shape : (sync : Bool) (s : ShapeState.State) → Shape.Phases32 s → (calls : List Shape.Arguments)
@@ -48,8 +53,8 @@ pub string-synth : (s : StringState.State) (calls : List String.Arguments) → S
 string-synth = StringPhase.chain-accounted
 
 -- the limits: of each sample of an answered call, whatever state it starts from
-pub super-square-limits : (s : SuperSquareState.State) (a : SuperSquare.Arguments) → SuperSquare.Phases32 s → SuperSquare.callOf s a .number ≡ 0 → EachLimited (SuperSquare.countsOf s a)
-super-square-limits = SuperSquarePhase.samples-limited
+pub super-square-limits : (s : SuperSquareState.State) (a : SuperSquare.Arguments) → Phases32 SuperSquare.superSquare s → callOf SuperSquare.superSquare s a .number ≡ 0 → EachLimited (countsOf SuperSquare.superSquare s a)
+super-square-limits s a f = samples-limited SuperSquarePhase.laws s f a
 
 pub variable-shape-limits : (sync : Bool) (s : ShapeState.State) → Shape.Phases32 s → (a : Shape.Arguments) → Shape.callOf sync s a .number ≡ 0 → EachLimited (Shape.countsOf sync s a)
 variable-shape-limits = ShapePhase.samples-limited

@@ -15,14 +15,17 @@ use Rattle.floats.proofs.At.{At}
 use Rattle.floats.proofs.Ticks.{tick, cycle}
 use Rattle.floats.proofs.Ranges.{Under}
 use Rattle.ranges.specs.Ranges.{phaseIn}
-use Rattle.block.specs.Account.{Accounted, chain, usedBy, EachLimited}
+use Rattle.block.specs.Account.{Accounted, chain, usedBy}
+use Rattle.block.specs.Limits.{EachLimited}
 use Rattle.block.specs.Calls.{Call, refusal, run}
 use Rattle.ranges.proofs.Bools.{cond-both, either-way}
-use Rattle.block.proofs.Plays.{Few, few-none, Inside}
+use Rattle.block.proofs.Plays.{few-none, few-most, Inside}
+use Rattle.block.specs.Limits.{Few}
 use Rattle.rooms.proofs.RangeLaws.{phase-under}
 use Rattle.block.proofs.Accounts.{OneSample, steps-one, steps-accounted, CallLaw, Untouched, call-accounts, chain-accounts}
-use Rattle.block.proofs.CallLaws.{few-most, not-done, refusal-untouched, refusal-law, run-law, run-few, run-limited}
-use Rattle.block.proofs.Neither.{NeitherFallsNorCuts, neither-none, run-neither}
+use Rattle.block.proofs.CallLaws.{not-done, refusal-untouched, refusal-law, run-law, run-few, run-limited}
+use Rattle.block.proofs.Neither.{neither-none, run-neither}
+use Rattle.block.specs.Limits.{NeitherFallsNorCuts}
 use Rattle.states.specs.declared.nes_triangle.State.{State}
 use Rattle.nes_triangle.specs.Depth.{testedBits}
 use Rattle.nes_triangle.specs.Sample.{finish, sampleOf, sampleAt}

@@ -16,7 +16,8 @@ use Rattle.rooms.specs.Steps.{stepsOf}
 use Rattle.ranges.specs.Ranges.{phaseIn, frequencyIn, parameterFrequencyIn}
 use Rattle.block.specs.declared.Counts.{Counts}
 use Rattle.block.specs.Calls.{Call, refusal, run, gave}
-use Rattle.block.specs.Account.{usedBy, sampleCounts}
+use Rattle.block.specs.Account.{usedBy}
+use Rattle.block.specs.Oscillator.{sampleCounts}
 use Rattle.states.specs.declared.nes_triangle.State.{State}
 use Rattle.nes_triangle.specs.declared.Rendered.{Rendered}
 use Rattle.nes_triangle.specs.Depth.{bitsIn, testedBits}

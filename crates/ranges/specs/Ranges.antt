@@ -1,5 +1,6 @@
 -- The ranges of 01, "Ranges", that more than one oscillator has. A NaN lies outside every range, and negative zero is zero. Assumes nothing.
-use mathlib.Core.Bool.{Bool, _&&_}
+use mathlib.Core.Bool.{Bool, true, _&&_}
+use mathlib.Core.List.{List, [], _∷_}
 use lib.Ieee.{Float, lt, le, neg}
 use Rattle.floats.specs.F32.{zero32, one32, two32, sixteen32, minFrequency, topStep}
 
@@ -30,3 +31,8 @@ waveshapeIn x = within (neg one32) two32 x
 -- a state's phase modulation or saw gain: -16 to 16
 abbrev pub sixteenIn : Float → Bool
 sixteenIn x = within (neg sixteen32) sixteen32 x
+
+-- a test for each value that has a range: all of them pass
+unfoldable pub allOf : List Bool → Bool
+allOf [] = true
+allOf (b ∷ bs) = b && allOf bs

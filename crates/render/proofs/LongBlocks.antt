@@ -1,5 +1,5 @@
 -- A block of more than 4,096 samples is refused whatever it holds and however long it is, so that 4,097 samples stand for any. Assumes nothing.
-use mathlib.Core.Path.{_≡_, refl}
+use mathlib.Core.Path.{_≡_, refl, sym, ap, _∙_}
 use mathlib.Core.Bool.{Bool, true, false}
 use mathlib.Core.List.{List}
 use Prim.Native.Nat.{ℕ, zero, suc, _-_, _≤_, _<_}
@@ -11,20 +11,21 @@ use lib.Ieee.{Float}
 use Rattle.floats.specs.F32.{zero32}
 use Rattle.jobs.specs.declared.Settings.{Settings}
 use Rattle.jobs.specs.declared.Settings.the-variants.{VariableShape, VariableSaw, SuperSquare, NesTriangle, StringSynth}
+use Rattle.block.proofs.Oscillators.{long-refused}
 use Rattle.variable_shape.specs.Block as Shape
 use Rattle.variable_saw.specs.Block as Saw
 use Rattle.super_square.specs.Block as Square
 use Rattle.nes_triangle.specs.Block as Nes
 use Rattle.string_synth.specs.Block as Strings
 use Rattle.render.specs.declared.bank.Bank.{Bank}
-use Rattle.render.specs.Bank.{settingsPlayed, silence}
+use Rattle.render.specs.Bank.{superSquarePlayed, settingsPlayed, silence}
 use Rattle.render.specs.Private.{lentOf}
 
 long-same : (b : Bank) (registration xs ys : List Float) → 4096 < length xs → 4096 < length ys → (s : Settings) → settingsPlayed b s registration xs ≡ settingsPlayed b s registration ys
-unfolding Shape.renderOf Saw.renderOf Square.renderOf Nes.renderOf Strings.renderOf
+unfolding Shape.renderOf Saw.renderOf Nes.renderOf Strings.renderOf
 long-same b registration xs ys p q (VariableShape f m w v d sync out) = rw (lt-ltb 4096 (length xs) p, lt-ltb 4096 (length ys) q)
 long-same b registration xs ys p q (VariableSaw f w v) = rw (lt-ltb 4096 (length xs) p, lt-ltb 4096 (length ys) q)
-long-same b registration xs ys p q (SuperSquare f h) = rw (lt-ltb 4096 (length xs) p, lt-ltb 4096 (length ys) q)
+long-same b registration xs ys p q (SuperSquare f h) = ap (superSquarePlayed b) (long-refused Square.superSquare (b .«super_square») _ p) ∙ sym (ap (superSquarePlayed b) (long-refused Square.superSquare (b .«super_square») _ q))
 long-same b registration xs ys p q (NesTriangle f n) = rw (lt-ltb 4096 (length xs) p, lt-ltb 4096 (length ys) q)
 long-same b registration xs ys p q (StringSynth f g) = rw (lt-ltb 4096 (length xs) p, lt-ltb 4096 (length ys) q)
 

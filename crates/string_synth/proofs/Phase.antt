@@ -12,13 +12,16 @@ use Rattle.floats.specs.F32.{zero32, half32}
 use Rattle.floats.proofs.At.{At}
 use Rattle.floats.proofs.Ticks.{tick, cycle}
 use Rattle.block.specs.declared.Counts.{Counts}
-use Rattle.block.specs.Account.{Accounted, chain, usedBy, EachLimited}
+use Rattle.block.specs.Account.{Accounted, chain, usedBy}
+use Rattle.block.specs.Limits.{EachLimited}
 use Rattle.block.specs.Calls.{Call, refusal, run}
 use Rattle.ranges.proofs.Bools.{cond-both, by-test, either-way}
-use Rattle.block.proofs.Plays.{Few, few-none, Inside}
+use Rattle.block.proofs.Plays.{few-none, few-most, Inside}
+use Rattle.block.specs.Limits.{Few}
 use Rattle.block.proofs.Accounts.{OneSample, steps-one, steps-accounted, CallLaw, Untouched, call-accounts, chain-accounts}
-use Rattle.block.proofs.CallLaws.{few-most, not-done, refusal-untouched, refusal-law, run-law, run-few, run-limited}
-use Rattle.block.proofs.Neither.{NeitherFallsNorCuts, neither-none, run-neither}
+use Rattle.block.proofs.CallLaws.{not-done, refusal-untouched, refusal-law, run-law, run-few, run-limited}
+use Rattle.block.proofs.Neither.{neither-none, run-neither}
+use Rattle.block.specs.Limits.{NeitherFallsNorCuts}
 use Rattle.states.specs.declared.string_synth.State.{State}
 use Rattle.string_synth.specs.Sample.{finish, sampleOf, sawsOf, sampleAt}
 use Rattle.states.specs.StringSynth.{newState, initState}

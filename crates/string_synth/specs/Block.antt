@@ -16,7 +16,8 @@ use Rattle.rooms.specs.Steps.{stepsOf}
 use Rattle.ranges.specs.Ranges.{within, parameterFrequencyIn, unitIn, sixteenIn}
 use Rattle.block.specs.declared.Counts.{Counts}
 use Rattle.block.specs.Calls.{Call, refusal, run, gave}
-use Rattle.block.specs.Account.{usedBy, sampleCounts}
+use Rattle.block.specs.Account.{usedBy}
+use Rattle.block.specs.Oscillator.{sampleCounts}
 use Rattle.states.specs.declared.string_synth.State.{State}
 use Rattle.string_synth.specs.declared.Rendered.{Rendered}
 use Rattle.string_synth.specs.declared.sample.Saws.{Saws}

@@ -13,7 +13,7 @@ use Rattle.floats.proofs.Ticks.{tick, cycle, one-at, tick-pos, Sum}
 use Rattle.floats.proofs.Turn.{Step, turn-1, turn-saw, turn-sum, turn-wraps, turn-stays}
 use Rattle.floats.proofs.Ranges.{Positive, passed-le, failed-le}
 use Rattle.ranges.specs.Ranges.{unitIn, waveshapeIn}
-use Rattle.block.specs.Account.{Balanced}
+use Rattle.block.specs.Limits.{Balanced}
 use Rattle.rooms.specs.Steps.{allIn}
 use Rattle.ranges.proofs.Bools.{and-both}
 use Rattle.block.proofs.Limits.{one-most}

@@ -15,7 +15,8 @@ use Rattle.ranges.specs.Targets.{clipped, clampedWidth}
 use Rattle.ranges.specs.Ranges.{within, phaseIn, frequencyIn, parameterFrequencyIn, unitIn, waveshapeIn}
 use Rattle.block.specs.declared.Counts.{Counts}
 use Rattle.block.specs.Calls.{Call, refusal, run, gave}
-use Rattle.block.specs.Account.{usedBy, sampleCounts}
+use Rattle.block.specs.Account.{usedBy}
+use Rattle.block.specs.Oscillator.{sampleCounts}
 use Rattle.states.specs.declared.variable_saw.State.{State}
 use Rattle.variable_saw.specs.declared.Rendered.{Rendered}
 use Rattle.variable_saw.specs.Sample.{sampleAt}

@@ -16,7 +16,7 @@ use Rattle.edges.specs.declared.Edge.{Edge}
 use Rattle.block.specs.Counting.{oneIf}
 use Rattle.rooms.specs.declared.Room.the-variants.{Unused}
 use Rattle.ranges.specs.Ranges.{sixteenIn}
-use Rattle.block.specs.Account.{Balanced}
+use Rattle.block.specs.Limits.{Balanced}
 use Rattle.edges.specs.Sync.{transitionDuringReset, slaveAtReset, wrapOnce, cutEdge}
 use Rattle.block.proofs.Limits.{one-most}
 use Rattle.rooms.proofs.RangeLaws.{under-phase, frequency-step, step-frequency, width-step, step-width}

@@ -12,12 +12,14 @@ use Rattle.floats.specs.F32.{zero32}
 use Rattle.floats.proofs.At.{At}
 use Rattle.floats.proofs.Ticks.{tick, cycle}
 use Rattle.parameter_interpolator.specs.declared.ParameterInterpolator.{ParameterInterpolator}
-use Rattle.block.specs.Account.{Accounted, chain, usedBy, Balanced, EachLimited}
+use Rattle.block.specs.Account.{Accounted, chain, usedBy}
+use Rattle.block.specs.Limits.{Balanced, EachLimited}
 use Rattle.block.specs.Calls.{Call, refusal, run}
 use Rattle.ranges.proofs.Bools.{cond-both, by-test, either-way}
-use Rattle.block.proofs.Plays.{Few, few-none, Inside}
+use Rattle.block.proofs.Plays.{few-none, few-most, Inside}
+use Rattle.block.specs.Limits.{Few}
 use Rattle.block.proofs.Accounts.{OneSample, steps-one, steps-accounted, CallLaw, Untouched, call-accounts, chain-accounts}
-use Rattle.block.proofs.CallLaws.{few-most, not-done, refusal-untouched, refusal-law, run-law, run-few, run-limited, run-balance}
+use Rattle.block.proofs.CallLaws.{not-done, refusal-untouched, refusal-law, run-law, run-few, run-limited, run-balance}
 use Rattle.states.specs.declared.variable_shape.State.{State}
 use Rattle.variable_shape.specs.Sample.{stepsAt, sampleAt}
 use Rattle.states.specs.VariableShape.{newState, initState}

@@ -1,5 +1,6 @@
 -- `super_square::state_in` meets its contract. Assumes nothing.
-use mathlib.Core.Path.{refl}
+use mathlib.Core.List.{[], _∷_}
+use Rattle.ranges.proofs.Bools.{joined-all}
 use Rattle.super_square.specs.Block.{stateIn}
 use borrow.Author.Needs.{needs}
 use Rattle.super_square.proofs.state_in.Statement.{statement}
@@ -19,7 +20,7 @@ frequency-in-requires-2 c κs = search needs
 
 returns : tie.Need-returns
 unfolding stateIn
-returns c = rw (c .before .before .before .phase-in .ensures, c .before .before .phase-in2 .ensures, c .before .frequency-in .ensures, c .frequency-in2 .ensures) refl
+returns c = rw (c .before .before .before .phase-in .ensures, c .before .before .phase-in2 .ensures, c .before .frequency-in .ensures, c .frequency-in2 .ensures) (joined-all _ (_ ∷ _ ∷ _ ∷ []))
 
 pub state-in-spec : {M : Type 1} → statement M
 state-in-spec =
