@@ -22,7 +22,6 @@ use Rattle.variable_shape.specs.Block as Shape
 use Rattle.variable_shape.proofs.Phase as ShapePhase
 use Rattle.states.specs.declared.variable_saw.State as SawState
 use Rattle.variable_saw.specs.Block as Saw
-use Rattle.variable_saw.proofs.Phase as SawPhase
 use Rattle.states.specs.declared.nes_triangle.State as NesState
 use Rattle.nes_triangle.specs.Block as Nes
 use Rattle.nes_triangle.proofs.Phase as NesPhase
@@ -41,8 +40,8 @@ super-square s a = answered-or-as-given SuperSquare.superSquare s a
 pub variable-shape : (sync : Bool) (s : ShapeState.State) (a : Shape.Arguments) → AnsweredOrAsGiven s (a .buffer) (Shape.callOf sync s a)
 variable-shape sync s a = ShapePhase.by-ways sync s a (AnsweredOrAsGiven s (a .buffer)) (λ number h. inr refl) (run-refused _ _ _ s (a .buffer))
 
-pub variable-saw : (s : SawState.State) (a : Saw.Arguments) → AnsweredOrAsGiven s (a .buffer) (Saw.callOf s a)
-variable-saw s a = SawPhase.by-ways s a (AnsweredOrAsGiven s (a .buffer)) (λ number h. inr refl) (run-refused _ _ _ s (a .buffer))
+pub variable-saw : (s : SawState.State) (a : Saw.Arguments) → AnsweredOrAsGiven s (a .buffer) (callOf Saw.variableSaw s a)
+variable-saw s a = answered-or-as-given Saw.variableSaw s a
 
 pub nes-triangle : (s : NesState.State) (a : Nes.Arguments) → AnsweredOrAsGiven s (a .buffer) (Nes.callOf s a)
 nes-triangle s a = NesPhase.by-ways s a (AnsweredOrAsGiven s (a .buffer)) (λ number h. inr refl) (λ p q. run-refused _ _ _ s (a .buffer))

@@ -41,15 +41,15 @@ abbrev pub Samples : {S : Type 0} → (S → List Float → Float → Sample S) 
 Samples make ps s xs c = c .number ≡ 0 → c ≡ done (play make s noCounts (stepsOf (length xs) ps) xs)
 
 pub super-square : (s : SuperSquareState.State) (a : SuperSquare.Arguments)
-    → Samples SuperSquareSample.sampleAt (SuperSquare.interpolators s (a .frequency) (a .shape) (length (a .buffer))) s (a .buffer) (callOf SuperSquare.superSquare s a)
+    → Samples SuperSquareSample.sampleAt (SuperSquare.interpolators s a) s (a .buffer) (callOf SuperSquare.superSquare s a)
 super-square s a = answered-samples SuperSquarePhase.laws s a
 
 pub variable-shape : (sync : Bool) (s : ShapeState.State) (a : Shape.Arguments)
     → Samples (ShapeSample.sampleAt sync (a .phase-output)) (Shape.stepping (a .phase-output) (Shape.movingOf s a)) s (a .buffer) (Shape.callOf sync s a)
 variable-shape sync s a = ShapePhase.by-ways sync s a (Samples _ _ s (a .buffer)) (λ number h e. not-done number h e) (run-answered _ _ _ s (a .buffer))
 
-pub variable-saw : (s : SawState.State) (a : Saw.Arguments) → Samples SawSample.sampleAt (Saw.moving s a) s (a .buffer) (Saw.callOf s a)
-variable-saw s a = SawPhase.by-ways s a (Samples _ _ s (a .buffer)) (λ number h e. not-done number h e) (run-answered _ _ _ s (a .buffer))
+pub variable-saw : (s : SawState.State) (a : Saw.Arguments) → Samples SawSample.sampleAt (Saw.interpolators s a) s (a .buffer) (callOf Saw.variableSaw s a)
+variable-saw s a = answered-samples SawPhase.laws s a
 
 pub nes-triangle : (s : NesState.State) (a : Nes.Arguments)
     → Samples (NesSample.sampleAt (a .bits)) (Nes.interpolators s (a .frequency) (length (a .buffer))) s (a .buffer) (Nes.callOf s a)

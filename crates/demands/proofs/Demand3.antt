@@ -40,9 +40,10 @@ pub variable-shape : (sync : Bool) (s : ShapeState.State) → Shape.Phases32 s �
 variable-shape = ShapePhase.chain-accounted
 
 -- the other three have one phase
-pub variable-saw : (s : SawState.State) (calls : List Saw.Arguments) → Saw.Phase32 s
-    → (let r = chain Saw.callOf Saw.usedOf s calls in Accounted (2 ^ 149) (2 ^ 125) (s .phase) (r .cycles) (r .state .phase) (r .steps))
-variable-saw = SawPhase.chain-accounted
+pub variable-saw : (s : SawState.State) (calls : List Saw.Arguments) → Phases32 Saw.variableSaw s
+    → (let r = chainOf Saw.variableSaw s calls in Accounted (2 ^ 149) (2 ^ 125) (s .phase) (r .cycles) (r .state .phase) (r .steps))
+unfolding tick
+variable-saw s calls f = chain-accounted SawPhase.laws s f calls
 
 pub nes-triangle : (s : NesState.State) (calls : List Nes.Arguments) → Nes.Phase32 s
     → (let r = chain Nes.callOf Nes.usedOf s calls in Accounted (2 ^ 149) (2 ^ 125) (s .phase) (r .cycles) (r .state .phase) (r .steps))
@@ -59,8 +60,8 @@ super-square-limits s a f = samples-limited SuperSquarePhase.laws s f a
 pub variable-shape-limits : (sync : Bool) (s : ShapeState.State) → Shape.Phases32 s → (a : Shape.Arguments) → Shape.callOf sync s a .number ≡ 0 → EachLimited (Shape.countsOf sync s a)
 variable-shape-limits = ShapePhase.samples-limited
 
-pub variable-saw-limits : (s : SawState.State) (a : Saw.Arguments) → Saw.Phase32 s → Saw.callOf s a .number ≡ 0 → EachLimited (Saw.countsOf s a)
-variable-saw-limits = SawPhase.samples-limited
+pub variable-saw-limits : (s : SawState.State) (a : Saw.Arguments) → Phases32 Saw.variableSaw s → callOf Saw.variableSaw s a .number ≡ 0 → EachLimited (countsOf Saw.variableSaw s a)
+variable-saw-limits s a f = samples-limited SawPhase.laws s f a
 
 pub nes-triangle-limits : (s : NesState.State) (a : Nes.Arguments) → Nes.Phase32 s → Nes.callOf s a .number ≡ 0 → EachLimited (Nes.countsOf s a)
 nes-triangle-limits = NesPhase.samples-limited

@@ -28,7 +28,6 @@ use Rattle.super_square.specs.Block as Square
 use Rattle.nes_triangle.specs.Block as Nes
 use Rattle.string_synth.specs.Block as Strings
 use Rattle.states.specs.declared.variable_shape.State.{State as ShapeState}
-use Rattle.states.specs.declared.variable_saw.State.{State as SawState}
 use Rattle.states.specs.declared.nes_triangle.State.{State as NesState}
 use Rattle.states.specs.declared.string_synth.State.{State as StringState}
 use Rattle.render.specs.declared.bank.Bank.{Bank}
@@ -52,13 +51,6 @@ shape-kept s m f w v d sync out xs =
     (cond-both (Kept s) (not (Shape.stateIn s)) _ _ (λ h. refl)
     (cond-both (Kept s) (not (Shape.parametersIn m f w v d)) _ _ (λ h. refl) (run-kept _ _ _ s xs)))
 
-saw-kept : (s : SawState) (f w v : Float) (xs : List Float) → Kept s (Saw.renderOf s f w v xs)
-unfolding Saw.renderOf
-saw-kept s f w v xs =
-    cond-both (Kept s) (ltb 4096 (length xs)) _ _ (λ h. refl)
-    (cond-both (Kept s) (not (Saw.stateIn s)) _ _ (λ h. refl)
-    (cond-both (Kept s) (not (Saw.parametersIn f w v)) _ _ (λ h. refl) (run-kept _ _ _ s xs)))
-
 nes-kept : (s : NesState) (f : Float) (bits : ℕ) (xs : List Float) → Kept s (Nes.renderOf s f bits xs)
 unfolding Nes.renderOf
 nes-kept s f bits xs =
@@ -77,7 +69,7 @@ string-kept s f registration g xs =
 
 settings-kept : (b : Bank) (s : Settings) (registration xs : List Float) → (settingsPlayed b s registration xs .outcome .answer ≡ 0 → ⊥) → settingsPlayed b s registration xs .bank ≡ b
 settings-kept b (VariableShape f m w v d sync out) registration xs h = ap (withShape b) (shape-kept (b .shape) m f w v d sync out xs h)
-settings-kept b (VariableSaw f w v) registration xs h = ap (withSaw b) (saw-kept (b .saw) f w v xs h)
+settings-kept b (VariableSaw f w v) registration xs h = ap (withSaw b) (refused-state Saw.variableSaw (b .saw) _ h)
 settings-kept b (SuperSquare f v) registration xs h = ap (withSuperSquare b) (refused-state Square.superSquare (b .«super_square») _ h)
 settings-kept b (NesTriangle f bits) registration xs h = ap (withNes b) (nes-kept (b .nes) f bits xs h)
 settings-kept b (StringSynth f g) registration xs h = ap (withString b) (string-kept (b .string) f registration g xs h)

@@ -1,7 +1,6 @@
 -- A whole call of the super square: super_square_oscillator.rs, lines 38 to 132, with 01's refusals before it. Assumes nothing.
 use mathlib.Core.Bool.{Bool, cond}
 use mathlib.Core.List.{List, [], _∷_}
-use Prim.Native.Nat.{ℕ}
 use lib.ListN.{length}
 use lib.Ieee.{Float, lt}
 use Rattle.floats.specs.F32.{_⊕_, _⊖_, _⊗_, f32, half32, one32, sixteen32}
@@ -32,6 +31,12 @@ stateIn s =
 unfoldable pub parametersIn : Float → Float → Bool
 parametersIn frequency shape = allOf (parameterFrequencyIn frequency ∷ unitIn shape ∷ [])
 
+-- what a call is given beside the state
+pub record Arguments : Type 0 where
+  pub frequency : Float
+  pub shape : Float
+  pub buffer : List Float
+
 -- the slave's factor, lines 40 to 44: 0.51 + 0.98 * shape below 0.5, else 1 + 16 * (shape - 0.5) * (shape - 0.5)
 abbrev pub factorOf : Float → Float
 factorOf shape =
@@ -40,28 +45,22 @@ factorOf shape =
     (one32 ⊕ sixteen32 ⊗ (shape ⊖ half32) ⊗ (shape ⊖ half32))
 
 -- lines 39 to 56: the master's frequency moves to the parameter, the slave's to its product with the factor, each clipped at 0.25
-abbrev pub interpolators : State → Float → Float → ℕ → List ParameterInterpolator
-interpolators s frequency shape n =
-    newInterpolator (s .«master_frequency») (clipped frequency) n
-    ∷ newInterpolator (s .«slave_frequency») (clipped (frequency ⊗ factorOf shape)) n
+abbrev pub interpolators : State → Arguments → List ParameterInterpolator
+interpolators s a =
+    newInterpolator (s .«master_frequency») (clipped (a .frequency)) (length (a .buffer))
+    ∷ newInterpolator (s .«slave_frequency») (clipped (a .frequency ⊗ factorOf (a .shape))) (length (a .buffer))
     ∷ []
 
 -- 01, "Rooms": each frequency above 0 and at most 17/64
 abbrev pub rooms : List Room
 rooms = Frequency ∷ Frequency ∷ []
 
--- what a call is given beside the state
-pub record Arguments : Type 0 where
-  pub frequency : Float
-  pub shape : Float
-  pub buffer : List Float
-
 -- the phase whose wraps are cycles is the master's, and the first step moves it
 abbrev pub superSquare : Oscillator State Arguments
 superSquare = record {
   buffer = λ a. a .buffer;
   checks = λ s a. 3 unless stateIn s ∷ 4 unless parametersIn (a .frequency) (a .shape) ∷ [];
-  moving = λ s a. interpolators s (a .frequency) (a .shape) (length (a .buffer));
+  moving = interpolators;
   rooms = λ a. rooms;
   sample = λ a. sampleAt;
   phases = λ s. s .«master_phase» ∷ s .«slave_phase» ∷ [];

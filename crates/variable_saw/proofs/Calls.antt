@@ -1,10 +1,8 @@
--- A whole call of the variable saw, in plain values: each way out of `render` is the definition's. Assumes nothing.
-use mathlib.Core.Path.{_≡_, _∙_}
+-- What a call of the variable saw makes sure of, and what `render` leaves once its checks have passed. Assumes nothing.
+use mathlib.Core.Path.{_≡_, sym, _∙_}
 use mathlib.Core.Bool.{Bool, true, false}
 use mathlib.Core.List.{List, [], _∷_}
-use Prim.Native.Nat.{_≤_, _<_}
 use native.Mathlib.Omega.{arith}
-use borrow.Author.Tests.{lt-ltb, le-ltb}
 use lib.Dec.{T}
 use lib.ListN.{length}
 use lib.Ieee.{Float, binary32, fits}
@@ -12,16 +10,18 @@ use Rattle.floats.proofs.Ticks.{topSum-at}
 use Rattle.floats.proofs.Ranges.{Under, at-least-0, passes-le, upto-of}
 use Rattle.parameter_interpolator.specs.declared.ParameterInterpolator.{ParameterInterpolator}
 use Rattle.parameter_interpolator.specs.Interpolator.{newInterpolator}
-use Rattle.block.specs.declared.Answer.the-variants.{LongBlock, BadState, BadParam}
 use Rattle.ranges.specs.Targets.{clipped, clampedWidth}
-use Rattle.block.specs.Calls.{run}
-use Rattle.ranges.proofs.Bools.{and-both}
+use Rattle.block.specs.Calls.{Call, run}
+use Rattle.block.specs.Checks.{AllPass}
+use Rattle.block.specs.Oscillator.{checksOf}
+use Rattle.block.specs.Account.{Phases32}
+use Rattle.ranges.proofs.Bools.{and-both, each-of, of-each}
 use Rattle.rooms.proofs.RangeLaws.{phase-under, under-phase}
+use Rattle.block.proofs.Ways.{runs}
 use Rattle.states.specs.declared.variable_saw.State.{State}
-use Rattle.variable_saw.specs.declared.Rendered.{Rendered}
 use Rattle.variable_saw.specs.Sample.{sampleAt}
-use Rattle.variable_saw.specs.Block.{sawPhaseIn, stateIn, parametersIn, rooms, renderOf, left}
-use Rattle.variable_saw.specs.Private.{reach, Valid, refused}
+use Rattle.variable_saw.specs.Block.{sawPhaseIn, stateIn, rooms, variableSaw, renderOf}
+use Rattle.variable_saw.specs.Private.{reach, Valid}
 
 -- a phase that passed its test lies within its reach, and the other way round
 phase-of : (high : Bool) (phase : Float) → T (fits binary32 phase) → sawPhaseIn high phase ≡ true → Under phase (reach high)
@@ -32,38 +32,21 @@ of-phase : {phase : Float} (high : Bool) → Under phase (reach high) → sawPha
 of-phase true u = rw (at-least-0 (u .at), passes-le (u .at) topSum-at (omega (arith, u .under)))
 of-phase false u = under-phase u
 
--- and so a state is valid
-pub valid-of : (s : State) → T (fits binary32 (s .phase)) → stateIn s ≡ true → Valid s
+-- and so a state is valid, and the other way round
+pub valid-of : (s : State) → Phases32 variableSaw s → stateIn s ≡ true → Valid s
 unfolding stateIn
-valid-of s t h =
-    let a = and-both _ _ h in
-    let b = and-both _ _ (a .0) in
-    let c = and-both _ _ (b .0) in
-    let d = and-both _ _ (c .0) in
-    record { phase = phase-of (s .high) (s .phase) t (d .0); previous-pw = d .1; frequency = c .1; pw = b .1; waveshape = a .1 }
+valid-of s f h =
+    let e = each-of _ h in
+    record { phase = phase-of (s .high) (s .phase) (f .0) (e .0); previous-pw = e .1 .0; frequency = e .1 .1 .0; pw = e .1 .1 .1 .0; waveshape = e .1 .1 .1 .1 .0 }
 
 pub of-valid : (s : State) → Valid s → stateIn s ≡ true
 unfolding stateIn
-of-valid s v = rw (of-phase (s .high) (v .phase), v .previous-pw, v .frequency, v .pw, v .waveshape)
+of-valid s v = of-each _ (of-phase (s .high) (v .phase), (v .previous-pw, (v .frequency, (v .pw, (v .waveshape, tt)))))
 
-module _ (s : State) (frequency pw waveshape : Float) (xs : List Float) (r : Rendered) where
-  pub long-block : 4096 < length xs → r ≡ refused LongBlock s → left r xs ≡ renderOf s frequency pw waveshape xs
-  unfolding renderOf
-  long-block l e = rw (lt-ltb 4096 (length xs) l, e)
-
-  module _ (l : length xs ≤ 4096) where
-    pub bad-state : stateIn s ≡ false → r ≡ refused BadState s → left r xs ≡ renderOf s frequency pw waveshape xs
-    unfolding renderOf
-    bad-state a e = rw (le-ltb 4096 (length xs) l, a, e)
-
-    module _ (a : stateIn s ≡ true) where
-      pub bad-param : parametersIn frequency pw waveshape ≡ false → r ≡ refused BadParam s → left r xs ≡ renderOf s frequency pw waveshape xs
-      unfolding renderOf
-      bad-param b e = rw (le-ltb 4096 (length xs) l, a, b, e)
-
-      pub rendered : parametersIn frequency pw waveshape ≡ true → (target width : Float) (f p w : ParameterInterpolator) (after : List Float)
-          → target ≡ clipped frequency → width ≡ clampedWidth target pw
-          → f ≡ newInterpolator (s .frequency) target (length xs) → p ≡ newInterpolator (s .pw) width (length xs) → w ≡ newInterpolator (s .waveshape) waveshape (length xs)
-          → left r after ≡ run sampleAt rooms (f ∷ p ∷ w ∷ []) s xs → left r after ≡ renderOf s frequency pw waveshape xs
-      unfolding renderOf
-      rendered b target width f p w after at-target at-width at-f at-p at-w e = e ∙ rw (le-ltb 4096 (length xs) l, a, b, at-f, at-p, at-w, at-width, at-target)
+-- the interpolators that `render` makes are the definition's
+pub rendered : (s : State) (frequency pw waveshape : Float) (xs : List Float) (c : Call State) → AllPass (checksOf variableSaw s (record { frequency = frequency; pw = pw; waveshape = waveshape; buffer = xs }))
+    → (target width : Float) (f p w : ParameterInterpolator) → target ≡ clipped frequency → width ≡ clampedWidth target pw
+    → f ≡ newInterpolator (s .frequency) target (length xs) → p ≡ newInterpolator (s .pw) width (length xs) → w ≡ newInterpolator (s .waveshape) waveshape (length xs)
+    → c ≡ run sampleAt rooms (f ∷ p ∷ w ∷ []) s xs → c ≡ renderOf s frequency pw waveshape xs
+rendered s frequency pw waveshape xs c q target width f p w at-target at-width at-f at-p at-w e =
+    e ∙ rw (at-f, at-p, at-w, at-width, at-target) (sym (runs variableSaw s (record { frequency = frequency; pw = pw; waveshape = waveshape; buffer = xs }) q))

@@ -3,28 +3,24 @@ use mathlib.Core.Path.{_≡_, refl}
 use mathlib.Core.Bool.{Bool, true, false, _&&_, cond}
 use mathlib.Core.List.{List}
 use Prim.Native.Nat.{ℕ}
-use lib.Dec.{eqb, ltb}
+use lib.Dec.{eqb, ltb, leb}
 use lib.ListN.{length, getD}
 use lib.Ieee.{Float, le, neg, ofBits}
-use Rattle.floats.specs.F32.{f32, one32}
-use Rattle.ranges.specs.Ranges.{frequencyIn, unitIn, waveshapeIn}
-use Rattle.variable_saw.specs.Block.{sawPhaseIn, stateIn, renderOf}
-use Rattle.words.specs.Face.{faceOf, refusedFace}
-use Rattle.variable_saw_face.specs.Words.{stateOf, renderFace}
+use Rattle.floats.specs.F32.{one32}
+use Rattle.ranges.specs.Ranges.{allOf}
+use Rattle.variable_saw.specs.Block.{sawPhaseIn, stateIn, variableSaw}
+use Rattle.words.specs.Face.{refusedFace}
+use Rattle.words.proofs.Faces.{bad-state-face}
+use Rattle.variable_saw_face.specs.Words.{stateOf, wordsOf, renderFace}
 
 outside : (w : List ℕ) → ltb 1 (getD w 3 0) ≡ true → stateIn (stateOf w) ≡ false
-unfolding stateOf stateIn le neg ofBits
-outside w h = rw h (go (eqb (getD w 3 0) 1))
+unfolding stateOf stateIn allOf le neg ofBits
+outside w h = rw h (go (eqb (getD w 3 0) 1) _)
   where
-    go : (high : Bool) → (((sawPhaseIn high (neg one32) && unitIn (f32 (getD w 2 0))) && frequencyIn (f32 (getD w 4 0))) && unitIn (f32 (getD w 5 0))) && waveshapeIn (f32 (getD w 6 0)) ≡ false
-    go true = refl
-    go false = refl
+    go : (high b : Bool) → (sawPhaseIn high (neg one32) && b) ≡ false
+    go true b = refl
+    go false b = refl
 
 pub bad-bool : (w : List ℕ) (frequency pw waveshape : Float) (xs : List Float) → ltb 1 (getD w 3 0) ≡ true
-    → renderFace w frequency pw waveshape xs ≡ refusedFace (cond (ltb 4096 (length xs)) 1 3) w xs
-unfolding faceOf renderOf
-bad-bool w frequency pw waveshape xs h = go (ltb 4096 (length xs)) refl
-  where
-    go : (b : Bool) → ltb 4096 (length xs) ≡ b → renderFace w frequency pw waveshape xs ≡ refusedFace (cond b 1 3) w xs
-    go true e = rw e refl
-    go false e = rw (e, outside w h) refl
+    → renderFace w frequency pw waveshape xs ≡ refusedFace (cond (leb (length xs) 4096) 3 1) w xs
+bad-bool w frequency pw waveshape xs h = bad-state-face variableSaw wordsOf w (stateOf w) _ _ _ refl (outside w h)

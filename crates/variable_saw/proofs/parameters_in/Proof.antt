@@ -1,5 +1,6 @@
 -- `variable_saw::parameters_in` meets its contract. Assumes nothing.
-use mathlib.Core.Path.{refl}
+use mathlib.Core.List.{[], _∷_}
+use Rattle.ranges.proofs.Bools.{joined-all}
 use Rattle.variable_saw.specs.Block.{parametersIn}
 use borrow.Author.Needs.{needs}
 use Rattle.variable_saw.proofs.parameters_in.Statement.{statement}
@@ -16,7 +17,7 @@ unit-in-requires-2 c κs = search needs
 
 returns : tie.Need-returns
 unfolding parametersIn
-returns c = rw (c .before .before .parameter-frequency-in .ensures, c .before .unit-in .ensures, c .unit-in2 .ensures) refl
+returns c = rw (c .before .before .parameter-frequency-in .ensures, c .before .unit-in .ensures, c .unit-in2 .ensures) (joined-all _ (_ ∷ _ ∷ []))
 
 pub parameters-in-spec : {M : Type 1} → statement M
 parameters-in-spec =

@@ -1,5 +1,6 @@
 -- `variable_saw::state_in` meets its contract. Assumes nothing.
-use mathlib.Core.Path.{refl}
+use mathlib.Core.List.{[], _∷_}
+use Rattle.ranges.proofs.Bools.{joined-all}
 use Rattle.variable_saw.specs.Block.{stateIn}
 use borrow.Author.Needs.{needs}
 use Rattle.variable_saw.proofs.state_in.Statement.{statement}
@@ -22,7 +23,7 @@ waveshape-in-requires c κs = search needs
 
 returns : tie.Need-returns
 unfolding stateIn
-returns c = rw (c .before .before .before .before .saw-phase-in .ensures, c .before .before .before .unit-in .ensures, c .before .before .frequency-in .ensures, c .before .unit-in2 .ensures, c .waveshape-in .ensures) refl
+returns c = rw (c .before .before .before .before .saw-phase-in .ensures, c .before .before .before .unit-in .ensures, c .before .before .frequency-in .ensures, c .before .unit-in2 .ensures, c .waveshape-in .ensures) (joined-all _ (_ ∷ _ ∷ _ ∷ _ ∷ []))
 
 pub state-in-spec : {M : Type 1} → statement M
 state-in-spec =
