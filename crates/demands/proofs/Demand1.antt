@@ -19,7 +19,6 @@ use Rattle.states.specs.declared.super_square.State as SuperSquareState
 use Rattle.super_square.specs.Block as SuperSquare
 use Rattle.states.specs.declared.variable_shape.State as ShapeState
 use Rattle.variable_shape.specs.Block as Shape
-use Rattle.variable_shape.proofs.Phase as ShapePhase
 use Rattle.states.specs.declared.variable_saw.State as SawState
 use Rattle.variable_saw.specs.Block as Saw
 use Rattle.states.specs.declared.nes_triangle.State as NesState
@@ -37,8 +36,8 @@ AnsweredOrAsGiven s xs c = (c .number ≡ 0) ⊎ (c ≡ refusal (c .number) (c .
 pub super-square : (s : SuperSquareState.State) (a : SuperSquare.Arguments) → AnsweredOrAsGiven s (a .buffer) (callOf SuperSquare.superSquare s a)
 super-square s a = answered-or-as-given SuperSquare.superSquare s a
 
-pub variable-shape : (sync : Bool) (s : ShapeState.State) (a : Shape.Arguments) → AnsweredOrAsGiven s (a .buffer) (Shape.callOf sync s a)
-variable-shape sync s a = ShapePhase.by-ways sync s a (AnsweredOrAsGiven s (a .buffer)) (λ number h. inr refl) (run-refused _ _ _ s (a .buffer))
+pub variable-shape : (sync : Bool) (s : ShapeState.State) (a : Shape.Arguments) → AnsweredOrAsGiven s (a .buffer) (callOf (Shape.variableShape sync) s a)
+variable-shape sync s a = answered-or-as-given (Shape.variableShape sync) s a
 
 pub variable-saw : (s : SawState.State) (a : Saw.Arguments) → AnsweredOrAsGiven s (a .buffer) (callOf Saw.variableSaw s a)
 variable-saw s a = answered-or-as-given Saw.variableSaw s a

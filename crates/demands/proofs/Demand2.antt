@@ -45,8 +45,8 @@ pub super-square : (s : SuperSquareState.State) (a : SuperSquare.Arguments)
 super-square s a = answered-samples SuperSquarePhase.laws s a
 
 pub variable-shape : (sync : Bool) (s : ShapeState.State) (a : Shape.Arguments)
-    → Samples (ShapeSample.sampleAt sync (a .phase-output)) (Shape.stepping (a .phase-output) (Shape.movingOf s a)) s (a .buffer) (Shape.callOf sync s a)
-variable-shape sync s a = ShapePhase.by-ways sync s a (Samples _ _ s (a .buffer)) (λ number h e. not-done number h e) (run-answered _ _ _ s (a .buffer))
+    → Samples (ShapeSample.sampleAt sync (a .phase-output)) (Shape.stepping (a .phase-output) (Shape.movingOf s a)) s (a .buffer) (callOf (Shape.variableShape sync) s a)
+variable-shape sync s a = answered-samples (ShapePhase.laws sync) s a
 
 pub variable-saw : (s : SawState.State) (a : Saw.Arguments) → Samples SawSample.sampleAt (Saw.interpolators s a) s (a .buffer) (callOf Saw.variableSaw s a)
 variable-saw s a = answered-samples SawPhase.laws s a

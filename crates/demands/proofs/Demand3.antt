@@ -34,10 +34,11 @@ unfolding tick
 super-square s calls f = chain-accounted SuperSquarePhase.laws s f calls
 
 -- the variable shape's is the master's with sync and the slave's without; `sync` is one for the whole chain
-pub variable-shape : (sync : Bool) (s : ShapeState.State) → Shape.Phases32 s → (calls : List Shape.Arguments)
-    → (let r = chain (Shape.callOf sync) (Shape.usedOf sync) s calls in
+pub variable-shape : (sync : Bool) (s : ShapeState.State) → Phases32 (Shape.variableShape sync) s → (calls : List Shape.Arguments)
+    → (let r = chainOf (Shape.variableShape sync) s calls in
     Accounted (2 ^ 149) (2 ^ 125) (Shape.countedPhase sync s) (r .cycles) (Shape.countedPhase sync (r .state)) (r .steps))
-variable-shape = ShapePhase.chain-accounted
+unfolding tick
+variable-shape sync s f calls = chain-accounted (ShapePhase.laws sync) s f calls
 
 -- the other three have one phase
 pub variable-saw : (s : SawState.State) (calls : List Saw.Arguments) → Phases32 Saw.variableSaw s
@@ -57,8 +58,8 @@ string-synth = StringPhase.chain-accounted
 pub super-square-limits : (s : SuperSquareState.State) (a : SuperSquare.Arguments) → Phases32 SuperSquare.superSquare s → callOf SuperSquare.superSquare s a .number ≡ 0 → EachLimited (countsOf SuperSquare.superSquare s a)
 super-square-limits s a f = samples-limited SuperSquarePhase.laws s f a
 
-pub variable-shape-limits : (sync : Bool) (s : ShapeState.State) → Shape.Phases32 s → (a : Shape.Arguments) → Shape.callOf sync s a .number ≡ 0 → EachLimited (Shape.countsOf sync s a)
-variable-shape-limits = ShapePhase.samples-limited
+pub variable-shape-limits : (sync : Bool) (s : ShapeState.State) → Phases32 (Shape.variableShape sync) s → (a : Shape.Arguments) → callOf (Shape.variableShape sync) s a .number ≡ 0 → EachLimited (countsOf (Shape.variableShape sync) s a)
+variable-shape-limits sync s f a = samples-limited (ShapePhase.laws sync) s f a
 
 pub variable-saw-limits : (s : SawState.State) (a : Saw.Arguments) → Phases32 Saw.variableSaw s → callOf Saw.variableSaw s a .number ≡ 0 → EachLimited (countsOf Saw.variableSaw s a)
 variable-saw-limits s a f = samples-limited SawPhase.laws s f a

@@ -1,6 +1,6 @@
 -- A refused record changes no state. Assumes nothing.
 use mathlib.Core.Path.{_≡_, refl, sym, ap, subst}
-use mathlib.Core.Bool.{Bool, not}
+use mathlib.Core.Bool.{not}
 use mathlib.Core.List.{List}
 use Prim.Native.Nat.{ℕ}
 use lib.Dec.{ltb, eqb}
@@ -27,7 +27,6 @@ use Rattle.variable_saw.specs.Block as Saw
 use Rattle.super_square.specs.Block as Square
 use Rattle.nes_triangle.specs.Block as Nes
 use Rattle.string_synth.specs.Block as Strings
-use Rattle.states.specs.declared.variable_shape.State.{State as ShapeState}
 use Rattle.states.specs.declared.nes_triangle.State.{State as NesState}
 use Rattle.states.specs.declared.string_synth.State.{State as StringState}
 use Rattle.render.specs.declared.bank.Bank.{Bank}
@@ -43,13 +42,6 @@ run-kept make rooms ps s xs = go (firstOutside rooms (stepsOf (length xs) ps)) r
     go : (f : Found) → firstOutside rooms (stepsOf (length xs) ps) ≡ f → Kept s (run make rooms ps s xs)
     go (Outside i) h = subst (Kept s) (sym (run-drift make rooms ps s xs i h)) (λ n. refl)
     go Nowhere h = subst (Kept s) (sym (run-done make rooms ps s xs h)) (λ n. absurd (n refl))
-
-shape-kept : (s : ShapeState) (m f w v d : Float) (sync out : Bool) (xs : List Float) → Kept s (Shape.renderOf s m f w v d sync out xs)
-unfolding Shape.renderOf
-shape-kept s m f w v d sync out xs =
-    cond-both (Kept s) (ltb 4096 (length xs)) _ _ (λ h. refl)
-    (cond-both (Kept s) (not (Shape.stateIn s)) _ _ (λ h. refl)
-    (cond-both (Kept s) (not (Shape.parametersIn m f w v d)) _ _ (λ h. refl) (run-kept _ _ _ s xs)))
 
 nes-kept : (s : NesState) (f : Float) (bits : ℕ) (xs : List Float) → Kept s (Nes.renderOf s f bits xs)
 unfolding Nes.renderOf
@@ -68,7 +60,7 @@ string-kept s f registration g xs =
     (cond-both (Kept s) (lt half32 f) _ _ (λ h. refl) (run-kept _ _ _ s xs)))))
 
 settings-kept : (b : Bank) (s : Settings) (registration xs : List Float) → (settingsPlayed b s registration xs .outcome .answer ≡ 0 → ⊥) → settingsPlayed b s registration xs .bank ≡ b
-settings-kept b (VariableShape f m w v d sync out) registration xs h = ap (withShape b) (shape-kept (b .shape) m f w v d sync out xs h)
+settings-kept b (VariableShape f m w v d sync out) registration xs h = ap (withShape b) (refused-state (Shape.variableShape sync) (b .shape) _ h)
 settings-kept b (VariableSaw f w v) registration xs h = ap (withSaw b) (refused-state Saw.variableSaw (b .saw) _ h)
 settings-kept b (SuperSquare f v) registration xs h = ap (withSuperSquare b) (refused-state Square.superSquare (b .«super_square») _ h)
 settings-kept b (NesTriangle f bits) registration xs h = ap (withNes b) (nes-kept (b .nes) f bits xs h)

@@ -1,43 +1,41 @@
--- A whole call of the variable shape, in plain values: each way out of `render` is the definition's. Assumes nothing.
-use mathlib.Core.Path.{_≡_, _∙_}
-use mathlib.Core.Bool.{Bool, true, false}
-use mathlib.Core.List.{List}
-use Prim.Native.Nat.{ℕ, _≤_, _<_}
-use borrow.Author.Tests.{lt-ltb, le-ltb}
+-- What a call of the variable shape makes sure of, and what `render` leaves once its checks have passed. Assumes nothing.
+use mathlib.Core.Path.{_≡_, sym, _∙_}
+use mathlib.Core.Bool.{Bool, true}
+use mathlib.Core.List.{List, [], _∷_}
+use Prim.Native.Nat.{ℕ}
 use lib.ListN.{length}
 use lib.Ieee.{Float}
-use Rattle.block.specs.declared.Answer.the-variants.{LongBlock, BadState, BadParam}
-use Rattle.block.specs.Calls.{run}
+use Rattle.ranges.specs.Ranges.{sixteenIn}
+use Rattle.block.specs.Calls.{Call, run}
+use Rattle.block.specs.Checks.{AllPass}
+use Rattle.block.specs.Oscillator.{checksOf}
+use Rattle.block.specs.Account.{AllFit}
+use Rattle.ranges.proofs.Bools.{each-of}
+use Rattle.rooms.proofs.RangeLaws.{phase-under}
+use Rattle.block.proofs.Ways.{runs}
 use Rattle.states.specs.declared.variable_shape.State.{State}
-use Rattle.variable_shape.specs.declared.Rendered.{Rendered}
 use Rattle.variable_shape.specs.declared.steps.Interpolators.{Interpolators}
 use Rattle.variable_shape.specs.Sample.{sampleAt}
-use Rattle.variable_shape.specs.Block.{stateIn, parametersIn, interpolatorsOf, stepping, rooms, renderOf, left}
-use Rattle.variable_shape.specs.Private.{refused}
+use Rattle.variable_shape.specs.Block.{stateIn, Arguments, interpolatorsOf, movingOf, stepping, rooms, variableShape, renderOf}
+use Rattle.variable_shape.specs.Private.{Valid}
+
+module _ (s : State) (h : stateIn s ≡ true) where
+  -- a state that passed its test is valid
+  pub valid-of : AllFit (s .«master_phase» ∷ s .«slave_phase» ∷ []) → Valid s
+  unfolding stateIn
+  valid-of f = let e = each-of _ h in record { master = phase-under (f .0) (e .0); slave = phase-under (f .1 .0) (e .1 .0); ranges = h }
+
+  pub modulation-in : sixteenIn (s .«phase_modulation») ≡ true
+  unfolding stateIn
+  modulation-in = each-of _ h .1 .1 .1 .1 .1 .1 .1 .0
 
 -- phase modulation's interpolator starts from the state
 pub starts : (s : State) (masterFrequency frequency pw waveshape phaseModulation : Float) (n : ℕ) (p : Interpolators) → p ≡ interpolatorsOf s masterFrequency frequency pw waveshape phaseModulation n
     → p .«phase_modulation» .value ≡ s .«phase_modulation»
 starts s masterFrequency frequency pw waveshape phaseModulation n p e = rw e
 
-module _ (s : State) (masterFrequency frequency pw waveshape phaseModulation : Float) (sync phaseOutput : Bool) (xs : List Float) (r : Rendered) where
-  pub long-block : 4096 < length xs → r ≡ refused LongBlock s → left r xs ≡ renderOf s masterFrequency frequency pw waveshape phaseModulation sync phaseOutput xs
-  unfolding renderOf
-  long-block l e = rw (lt-ltb 4096 (length xs) l, e)
-
-  module _ (l : length xs ≤ 4096) where
-    pub bad-state : stateIn s ≡ false → r ≡ refused BadState s → left r xs ≡ renderOf s masterFrequency frequency pw waveshape phaseModulation sync phaseOutput xs
-    unfolding renderOf
-    bad-state a e = rw (le-ltb 4096 (length xs) l, a, e)
-
-    module _ (a : stateIn s ≡ true) where
-      pub bad-param : parametersIn masterFrequency frequency pw waveshape phaseModulation ≡ false → r ≡ refused BadParam s
-          → left r xs ≡ renderOf s masterFrequency frequency pw waveshape phaseModulation sync phaseOutput xs
-      unfolding renderOf
-      bad-param b e = rw (le-ltb 4096 (length xs) l, a, b, e)
-
-      pub rendered : parametersIn masterFrequency frequency pw waveshape phaseModulation ≡ true → (p : Interpolators) (after : List Float)
-          → p ≡ interpolatorsOf s masterFrequency frequency pw waveshape phaseModulation (length xs) → left r after ≡ run (sampleAt sync phaseOutput) (rooms phaseOutput) (stepping phaseOutput p) s xs
-          → left r after ≡ renderOf s masterFrequency frequency pw waveshape phaseModulation sync phaseOutput xs
-      unfolding renderOf
-      rendered b p after at-p e = e ∙ rw (le-ltb 4096 (length xs) l, a, b, at-p)
+-- the interpolators that `render` makes are the definition's
+pub rendered : (sync : Bool) (s : State) (a : Arguments) (c : Call State) → AllPass (checksOf (variableShape sync) s a) → (p : Interpolators) → p ≡ movingOf s a
+    → c ≡ run (sampleAt sync (a .phase-output)) (rooms (a .phase-output)) (stepping (a .phase-output) p) s (a .buffer)
+    → c ≡ renderOf s (a .master-frequency) (a .frequency) (a .pw) (a .waveshape) (a .phase-modulation) sync (a .phase-output) (a .buffer)
+rendered sync s a c q p at-p e = e ∙ rw at-p (sym (runs (variableShape sync) s a q))

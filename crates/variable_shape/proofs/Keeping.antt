@@ -19,6 +19,7 @@ use Rattle.ranges.specs.Ranges.{sixteenIn}
 use Rattle.block.specs.Limits.{Balanced}
 use Rattle.edges.specs.Sync.{transitionDuringReset, slaveAtReset, wrapOnce, cutEdge}
 use Rattle.block.proofs.Limits.{one-most}
+use Rattle.ranges.proofs.Bools.{of-each}
 use Rattle.rooms.proofs.RangeLaws.{under-phase, frequency-step, step-frequency, width-step, step-width}
 use Rattle.block.proofs.Plays.{Inside, Keeps}
 use Rattle.block.proofs.InsideAt.{inside-at}
@@ -34,7 +35,7 @@ use Rattle.variable_shape.specs.Waveform.{waveformOf, naiveOf}
 use Rattle.variable_shape.specs.Sample.{crossed, edgeOf, finish, resetEdge, resetSample, plainSample, sampleOf, stepsAt, sampleAt}
 use Rattle.variable_shape.specs.Block.{stateIn, rooms, countedPhase}
 use Rattle.variable_shape.specs.Private.{Valid, Ready}
-use Rattle.variable_shape.proofs.States.{modulation-in}
+use Rattle.variable_shape.proofs.Calls.{modulation-in}
 use Rattle.variable_shape.proofs.Edges.{crosses, edge-crossing}
 
 -- what one sample does
@@ -72,7 +73,7 @@ module _ (s : State) (steps : Steps) (h : Ready s steps) where
   after-valid masterPhase slavePhase next high m l = record {
     master = m;
     slave = l;
-    ranges = rw (under-phase m, under-phase l, step-width (h .width), step-frequency (h .master), step-frequency (h .slave), h .waveshape, h .modulation);
+    ranges = of-each _ (under-phase m, (under-phase l, (step-width (h .width), (step-frequency (h .master), (step-frequency (h .slave), (step-width (h .width), (h .waveshape, (h .modulation, tt))))))));
   }
 
   abbrev wave : Waveform

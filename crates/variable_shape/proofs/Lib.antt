@@ -1,6 +1,5 @@
 -- The laws of the variable shape.
 pub mod Edges
-pub mod States
 pub mod Keeping
 pub mod Loop
 pub mod Calls

@@ -3,22 +3,19 @@ use mathlib.Core.Path.{_≡_, refl}
 use mathlib.Core.Bool.{Bool, true, false, cond}
 use mathlib.Core.List.{List}
 use Prim.Native.Nat.{ℕ}
-use lib.Dec.{ltb}
+use lib.Dec.{ltb, leb}
 use lib.ListN.{length, getD}
 use lib.Ieee.{Float, le, neg, ofBits}
-use Rattle.variable_shape.specs.Block.{stateIn, renderOf}
-use Rattle.words.specs.Face.{faceOf, refusedFace}
-use Rattle.variable_shape_face.specs.Words.{stateOf, renderFace}
+use Rattle.ranges.specs.Ranges.{allOf}
+use Rattle.variable_shape.specs.Block.{stateIn, variableShape}
+use Rattle.words.specs.Face.{refusedFace}
+use Rattle.words.proofs.Faces.{bad-state-face}
+use Rattle.variable_shape_face.specs.Words.{stateOf, wordsOf, renderFace}
 
 outside : (w : List ℕ) → ltb 1 (getD w 4 0) ≡ true → stateIn (stateOf w) ≡ false
-unfolding stateOf stateIn le neg ofBits
+unfolding stateOf stateIn allOf le neg ofBits
 outside w h = rw h refl
 
 pub bad-bool : (w : List ℕ) (masterFrequency frequency pw waveshape phaseModulation : Float) (sync phaseOutput : Bool) (xs : List Float) → ltb 1 (getD w 4 0) ≡ true
-    → renderFace w masterFrequency frequency pw waveshape phaseModulation sync phaseOutput xs ≡ refusedFace (cond (ltb 4096 (length xs)) 1 3) w xs
-unfolding faceOf renderOf
-bad-bool w masterFrequency frequency pw waveshape phaseModulation sync phaseOutput xs h = go (ltb 4096 (length xs)) refl
-  where
-    go : (b : Bool) → ltb 4096 (length xs) ≡ b → renderFace w masterFrequency frequency pw waveshape phaseModulation sync phaseOutput xs ≡ refusedFace (cond b 1 3) w xs
-    go true e = rw e refl
-    go false e = rw (e, outside w h) refl
+    → renderFace w masterFrequency frequency pw waveshape phaseModulation sync phaseOutput xs ≡ refusedFace (cond (leb (length xs) 4096) 3 1) w xs
+bad-bool w masterFrequency frequency pw waveshape phaseModulation sync phaseOutput xs h = bad-state-face (variableShape sync) wordsOf w (stateOf w) _ _ _ refl (outside w h)

@@ -1,6 +1,7 @@
 -- `variable_shape::state_in` meets its contract. Assumes nothing.
 use Rattle.variable_shape.specs.Block.{stateIn}
-use mathlib.Core.Path.{refl}
+use mathlib.Core.List.{[], _∷_}
+use Rattle.ranges.proofs.Bools.{joined-all}
 use borrow.Author.Needs.{needs}
 use Rattle.variable_shape.proofs.state_in.Statement.{statement}
 use Rattle.variable_shape.proofs.state_in.Tie as tie
@@ -31,7 +32,7 @@ sixteen-in-requires c κs = search needs
 
 returns : tie.Need-returns
 unfolding stateIn
-returns c = rw (c .before .before .before .before .before .before .before .phase-in .ensures, c .before .before .before .before .before .before .phase-in2 .ensures, c .before .before .before .before .before .unit-in .ensures, c .before .before .before .before .frequency-in .ensures, c .before .before .before .frequency-in2 .ensures, c .before .before .unit-in2 .ensures, c .before .waveshape-in .ensures, c .sixteen-in .ensures) refl
+returns c = rw (c .before .before .before .before .before .before .before .phase-in .ensures, c .before .before .before .before .before .before .phase-in2 .ensures, c .before .before .before .before .before .unit-in .ensures, c .before .before .before .before .frequency-in .ensures, c .before .before .before .frequency-in2 .ensures, c .before .before .unit-in2 .ensures, c .before .waveshape-in .ensures, c .sixteen-in .ensures) (joined-all _ (_ ∷ _ ∷ _ ∷ _ ∷ _ ∷ _ ∷ _ ∷ []))
 
 pub state-in-spec : {M : Type 1} → statement M
 state-in-spec =
