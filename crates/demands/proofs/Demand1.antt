@@ -23,7 +23,6 @@ use Rattle.states.specs.declared.variable_saw.State as SawState
 use Rattle.variable_saw.specs.Block as Saw
 use Rattle.states.specs.declared.nes_triangle.State as NesState
 use Rattle.nes_triangle.specs.Block as Nes
-use Rattle.nes_triangle.proofs.Phase as NesPhase
 use Rattle.states.specs.declared.string_synth.State as StringState
 use Rattle.string_synth.specs.Block as String
 use Rattle.string_synth.proofs.Phase as StringPhase
@@ -42,8 +41,8 @@ variable-shape sync s a = answered-or-as-given (Shape.variableShape sync) s a
 pub variable-saw : (s : SawState.State) (a : Saw.Arguments) → AnsweredOrAsGiven s (a .buffer) (callOf Saw.variableSaw s a)
 variable-saw s a = answered-or-as-given Saw.variableSaw s a
 
-pub nes-triangle : (s : NesState.State) (a : Nes.Arguments) → AnsweredOrAsGiven s (a .buffer) (Nes.callOf s a)
-nes-triangle s a = NesPhase.by-ways s a (AnsweredOrAsGiven s (a .buffer)) (λ number h. inr refl) (λ p q. run-refused _ _ _ s (a .buffer))
+pub nes-triangle : (s : NesState.State) (a : Nes.Arguments) → AnsweredOrAsGiven s (a .buffer) (callOf Nes.nesTriangle s a)
+nes-triangle s a = answered-or-as-given Nes.nesTriangle s a
 
 pub string-synth : (s : StringState.State) (a : String.Arguments) → AnsweredOrAsGiven s (a .buffer) (String.callOf s a)
 string-synth s a = StringPhase.by-ways s a (AnsweredOrAsGiven s (a .buffer)) (λ number h. inr refl) (run-refused _ _ _ s (a .buffer))

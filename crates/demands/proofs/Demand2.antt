@@ -52,8 +52,8 @@ pub variable-saw : (s : SawState.State) (a : Saw.Arguments) → Samples SawSampl
 variable-saw s a = answered-samples SawPhase.laws s a
 
 pub nes-triangle : (s : NesState.State) (a : Nes.Arguments)
-    → Samples (NesSample.sampleAt (a .bits)) (Nes.interpolators s (a .frequency) (length (a .buffer))) s (a .buffer) (Nes.callOf s a)
-nes-triangle s a = NesPhase.by-ways s a (Samples _ _ s (a .buffer)) (λ number h e. not-done number h e) (λ p q. run-answered _ _ _ s (a .buffer))
+    → Samples (NesSample.sampleAt (a .bits)) (Nes.interpolators s a) s (a .buffer) (callOf Nes.nesTriangle s a)
+nes-triangle s a = answered-samples NesPhase.laws s a
 
 pub string-synth : (s : StringState.State) (a : String.Arguments)
     → Samples StringSample.sampleAt (String.interpolators s (a .frequency) (a .registration) (a .gain) (length (a .buffer))) s (a .buffer) (String.callOf s a)

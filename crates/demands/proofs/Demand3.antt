@@ -46,9 +46,10 @@ pub variable-saw : (s : SawState.State) (calls : List Saw.Arguments) → Phases3
 unfolding tick
 variable-saw s calls f = chain-accounted SawPhase.laws s f calls
 
-pub nes-triangle : (s : NesState.State) (calls : List Nes.Arguments) → Nes.Phase32 s
-    → (let r = chain Nes.callOf Nes.usedOf s calls in Accounted (2 ^ 149) (2 ^ 125) (s .phase) (r .cycles) (r .state .phase) (r .steps))
-nes-triangle = NesPhase.chain-accounted
+pub nes-triangle : (s : NesState.State) (calls : List Nes.Arguments) → Phases32 Nes.nesTriangle s
+    → (let r = chainOf Nes.nesTriangle s calls in Accounted (2 ^ 149) (2 ^ 125) (s .phase) (r .cycles) (r .state .phase) (r .steps))
+unfolding tick
+nes-triangle s calls f = chain-accounted NesPhase.laws s f calls
 
 pub string-synth : (s : StringState.State) (calls : List String.Arguments) → String.Phase32 s
     → (let r = chain String.callOf String.usedOf s calls in Accounted (2 ^ 152) (2 ^ 128) (s .phase) (r .cycles) (r .state .phase) (r .steps))
@@ -64,8 +65,8 @@ variable-shape-limits sync s f a = samples-limited (ShapePhase.laws sync) s f a
 pub variable-saw-limits : (s : SawState.State) (a : Saw.Arguments) → Phases32 Saw.variableSaw s → callOf Saw.variableSaw s a .number ≡ 0 → EachLimited (countsOf Saw.variableSaw s a)
 variable-saw-limits s a f = samples-limited SawPhase.laws s f a
 
-pub nes-triangle-limits : (s : NesState.State) (a : Nes.Arguments) → Nes.Phase32 s → Nes.callOf s a .number ≡ 0 → EachLimited (Nes.countsOf s a)
-nes-triangle-limits = NesPhase.samples-limited
+pub nes-triangle-limits : (s : NesState.State) (a : Nes.Arguments) → Phases32 Nes.nesTriangle s → callOf Nes.nesTriangle s a .number ≡ 0 → EachLimited (countsOf Nes.nesTriangle s a)
+nes-triangle-limits s a f = samples-limited NesPhase.laws s f a
 
 pub string-synth-limits : (s : StringState.State) (a : String.Arguments) → String.Phase32 s → String.callOf s a .number ≡ 0 → EachLimited (String.countsOf s a)
 string-synth-limits = StringPhase.samples-limited

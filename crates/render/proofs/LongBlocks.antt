@@ -18,15 +18,15 @@ use Rattle.super_square.specs.Block as Square
 use Rattle.nes_triangle.specs.Block as Nes
 use Rattle.string_synth.specs.Block as Strings
 use Rattle.render.specs.declared.bank.Bank.{Bank}
-use Rattle.render.specs.Bank.{shapePlayed, sawPlayed, superSquarePlayed, settingsPlayed, silence}
+use Rattle.render.specs.Bank.{shapePlayed, sawPlayed, superSquarePlayed, nesPlayed, settingsPlayed, silence}
 use Rattle.render.specs.Private.{lentOf}
 
 long-same : (b : Bank) (registration xs ys : List Float) → 4096 < length xs → 4096 < length ys → (s : Settings) → settingsPlayed b s registration xs ≡ settingsPlayed b s registration ys
-unfolding Nes.renderOf Strings.renderOf
+unfolding Strings.renderOf
 long-same b registration xs ys p q (VariableShape f m w v d sync out) = ap (shapePlayed b) (long-refused (Shape.variableShape sync) (b .shape) _ p) ∙ sym (ap (shapePlayed b) (long-refused (Shape.variableShape sync) (b .shape) _ q))
 long-same b registration xs ys p q (VariableSaw f w v) = ap (sawPlayed b) (long-refused Saw.variableSaw (b .saw) _ p) ∙ sym (ap (sawPlayed b) (long-refused Saw.variableSaw (b .saw) _ q))
 long-same b registration xs ys p q (SuperSquare f h) = ap (superSquarePlayed b) (long-refused Square.superSquare (b .«super_square») _ p) ∙ sym (ap (superSquarePlayed b) (long-refused Square.superSquare (b .«super_square») _ q))
-long-same b registration xs ys p q (NesTriangle f n) = rw (lt-ltb 4096 (length xs) p, lt-ltb 4096 (length ys) q)
+long-same b registration xs ys p q (NesTriangle f n) = ap (nesPlayed b) (long-refused Nes.nesTriangle (b .nes) _ p) ∙ sym (ap (nesPlayed b) (long-refused Nes.nesTriangle (b .nes) _ q))
 long-same b registration xs ys p q (StringSynth f g) = rw (lt-ltb 4096 (length xs) p, lt-ltb 4096 (length ys) q)
 
 take-silence : (n m : ℕ) → n ≤ m → take n (silence m) ≡ silence n

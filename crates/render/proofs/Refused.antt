@@ -27,7 +27,6 @@ use Rattle.variable_saw.specs.Block as Saw
 use Rattle.super_square.specs.Block as Square
 use Rattle.nes_triangle.specs.Block as Nes
 use Rattle.string_synth.specs.Block as Strings
-use Rattle.states.specs.declared.nes_triangle.State.{State as NesState}
 use Rattle.states.specs.declared.string_synth.State.{State as StringState}
 use Rattle.render.specs.declared.bank.Bank.{Bank}
 use Rattle.render.specs.Bank.{withShape, withSaw, withSuperSquare, withNes, withString, settingsPlayed, askedPlayed, recordPlayed, silence}
@@ -43,13 +42,6 @@ run-kept make rooms ps s xs = go (firstOutside rooms (stepsOf (length xs) ps)) r
     go (Outside i) h = subst (Kept s) (sym (run-drift make rooms ps s xs i h)) (λ n. refl)
     go Nowhere h = subst (Kept s) (sym (run-done make rooms ps s xs h)) (λ n. absurd (n refl))
 
-nes-kept : (s : NesState) (f : Float) (bits : ℕ) (xs : List Float) → Kept s (Nes.renderOf s f bits xs)
-unfolding Nes.renderOf
-nes-kept s f bits xs =
-    cond-both (Kept s) (ltb 4096 (length xs)) _ _ (λ h. refl)
-    (cond-both (Kept s) (not (Nes.stateIn s bits)) _ _ (λ h. refl)
-    (cond-both (Kept s) (not (Nes.parametersIn f bits)) _ _ (λ h. refl) (run-kept _ _ _ s xs)))
-
 string-kept : (s : StringState) (f : Float) (registration : List Float) (g : Float) (xs : List Float) → Kept s (Strings.renderOf s f registration g xs)
 unfolding Strings.renderOf
 string-kept s f registration g xs =
@@ -63,7 +55,7 @@ settings-kept : (b : Bank) (s : Settings) (registration xs : List Float) → (se
 settings-kept b (VariableShape f m w v d sync out) registration xs h = ap (withShape b) (refused-state (Shape.variableShape sync) (b .shape) _ h)
 settings-kept b (VariableSaw f w v) registration xs h = ap (withSaw b) (refused-state Saw.variableSaw (b .saw) _ h)
 settings-kept b (SuperSquare f v) registration xs h = ap (withSuperSquare b) (refused-state Square.superSquare (b .«super_square») _ h)
-settings-kept b (NesTriangle f bits) registration xs h = ap (withNes b) (nes-kept (b .nes) f bits xs h)
+settings-kept b (NesTriangle f bits) registration xs h = ap (withNes b) (refused-state Nes.nesTriangle (b .nes) _ h)
 settings-kept b (StringSynth f g) registration xs h = ap (withString b) (string-kept (b .string) f registration g xs h)
 
 -- 01: "A refused record changes nothing"

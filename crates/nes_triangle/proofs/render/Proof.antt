@@ -1,8 +1,11 @@
 -- `nes_triangle::render` meets its contract: each way out is the definition's. Assumes nothing.
 use mathlib.Core.Path.{_∙_, sym, subst}
 use lib.Dec.{T}
-use borrow.Author.Tests.{not-true, not-false}
-use Rattle.nes_triangle.proofs.Calls.{long-block, bad-state, bad-param, fit-of, rendered}
+use borrow.Author.Tests.{not-true, not-false, le-leb, lt-leb}
+use Rattle.block.specs.Checks.{here, later}
+use Rattle.block.proofs.Ways.{refused-by}
+use Rattle.nes_triangle.specs.Block.{nesTriangle}
+use Rattle.nes_triangle.proofs.Calls.{passed-of, rendered}
 use borrow.Author.Needs.{needs}
 use Rattle.nes_triangle.proofs.render.Statement.{statement}
 use Rattle.nes_triangle.proofs.render.Tie as tie
@@ -11,7 +14,7 @@ refuse-requires : tie.Need-refuse-requires
 refuse-requires c κs = search needs
 
 returns : tie.Need-returns
-returns c = long-block _ _ _ _ _ (c .before .if1 .taken) (c .refuse .ensures)
+returns c = rw (c .refuse .ensures) (sym (refused-by nesTriangle _ _ (here (lt-leb _ _ (c .before .if1 .taken)))))
 
 state-in-requires : tie.Need-state-in-requires
 state-in-requires c κs = search needs
@@ -22,7 +25,7 @@ refuse-requires-2 c κs = search needs
 returns-2 : tie.Need-returns-2
 returns-2 c =
     let t = c .before .before in
-    bad-state _ _ _ _ _ (t .before .if1 .left) (sym (t .state-in .ensures) ∙ not-true _ (c .before .if2 .taken)) (c .refuse2 .ensures)
+    rw (c .refuse2 .ensures) (sym (refused-by nesTriangle _ _ (later (le-leb _ _ (t .before .if1 .left)) (here (sym (t .state-in .ensures) ∙ not-true _ (c .before .if2 .taken))))))
 
 parameters-in-requires : tie.Need-parameters-in-requires
 parameters-in-requires c κs = search needs
@@ -34,7 +37,8 @@ returns-3 : tie.Need-returns-3
 returns-3 c =
     let p = c .before .before in
     let t = p .before .before in
-    bad-param _ _ _ _ _ (t .before .if1 .left) (sym (t .state-in .ensures) ∙ not-false _ (p .before .if2 .left)) (sym (p .parameters-in .ensures) ∙ not-true _ (c .before .if3 .taken)) (c .refuse3 .ensures)
+    rw (c .refuse3 .ensures)
+    (sym (refused-by nesTriangle _ _ (later (le-leb _ _ (t .before .if1 .left)) (later (sym (t .state-in .ensures) ∙ not-false _ (p .before .if2 .left)) (here (sym (p .parameters-in .ensures) ∙ not-true _ (c .before .if3 .taken)))))))
 
 cast-n : tie.Need-cast-n
 cast-n c = search needs
@@ -51,7 +55,7 @@ drift-or-play-requires c κs =
     let p = e .before in
     let t = p .before .before in
     let g = t .before .before .before .good .0 in
-    fit-of _ _ _ _ (subst T (sym (g .1 .1 .0 .1)) tt) (t .before .if1 .left) (sym (t .state-in .ensures) ∙ not-false _ (p .before .if2 .left)) (sym (p .parameters-in .ensures) ∙ not-false _ (e .if3 .left))
+    record { short = t .before .if1 .left; valid = passed-of _ _ _ (subst T (sym (g .1 .1 .0 .1)) tt, tt) (sym (t .state-in .ensures) ∙ not-false _ (p .before .if2 .left)) (sym (p .parameters-in .ensures) ∙ not-false _ (e .if3 .left)) }
 
 same-length : tie.Need-same-length
 same-length c = search needs
@@ -64,8 +68,8 @@ returns-4 c =
     let e = m .before in
     let p = e .before in
     let t = p .before .before in
-    rendered _ _ _ _ (d .drift-or-play .result) (t .before .if1 .left) (sym (t .state-in .ensures) ∙ not-false _ (p .before .if2 .left)) (sym (p .parameters-in .ensures) ∙ not-false _ (e .if3 .left))
-    _ _ _ (m .min .ensures) (n .new .ensures) (d .drift-or-play .ensures)
+    rendered _ _ _ (le-leb _ _ (t .before .if1 .left), (sym (t .state-in .ensures) ∙ not-false _ (p .before .if2 .left), (sym (p .parameters-in .ensures) ∙ not-false _ (e .if3 .left), tt)))
+    _ _ (m .min .ensures) (n .new .ensures) (d .drift-or-play .ensures)
 
 pub render-spec : {M : Type 1} → statement M
 render-spec =

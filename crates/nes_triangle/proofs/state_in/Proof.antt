@@ -1,5 +1,6 @@
 -- `nes_triangle::state_in` meets its contract. Assumes nothing.
-use mathlib.Core.Path.{refl}
+use mathlib.Core.List.{[], _∷_}
+use Rattle.ranges.proofs.Bools.{joined-all}
 use mir.Facts.{toZ-ofZ}
 use Rattle.nes_triangle.specs.Block.{stateIn}
 use borrow.Author.Needs.{needs}
@@ -19,7 +20,7 @@ returns : tie.Need-returns
 unfolding stateIn
 returns c =
     let k = c .before .struct-told .given .1 .1 .0 in
-    rw (c .step-in .ensures, c .before .before .frequency-in .ensures, c .before .before .before .phase-in .ensures, toZ-ofZ (record { sfits = k .1 })) refl
+    rw (c .step-in .ensures, c .before .before .frequency-in .ensures, c .before .before .before .phase-in .ensures, toZ-ofZ (record { sfits = k .1 })) (joined-all _ (_ ∷ _ ∷ []))
 
 pub state-in-spec : {M : Type 1} → statement M
 state-in-spec =
