@@ -13,7 +13,6 @@ use Rattle.rooms.specs.Steps.{stepsOf}
 use Rattle.block.specs.Play.{Sample, play}
 use Rattle.block.specs.Calls.{Call, done}
 use Rattle.block.specs.Oscillator.{callOf}
-use Rattle.block.proofs.CallLaws.{run-answered, not-done}
 use Rattle.block.proofs.Oscillators.{answered-samples}
 use Rattle.states.specs.declared.super_square.State as SuperSquareState
 use Rattle.super_square.specs.Sample as SuperSquareSample
@@ -56,5 +55,5 @@ pub nes-triangle : (s : NesState.State) (a : Nes.Arguments)
 nes-triangle s a = answered-samples NesPhase.laws s a
 
 pub string-synth : (s : StringState.State) (a : String.Arguments)
-    → Samples StringSample.sampleAt (String.interpolators s (a .frequency) (a .registration) (a .gain) (length (a .buffer))) s (a .buffer) (String.callOf s a)
-string-synth s a = StringPhase.by-ways s a (Samples _ _ s (a .buffer)) (λ number h e. not-done number h e) (run-answered _ _ _ s (a .buffer))
+    → Samples StringSample.sampleAt (String.interpolators s a) s (a .buffer) (callOf String.stringSynth s a)
+string-synth s a = answered-samples StringPhase.laws s a

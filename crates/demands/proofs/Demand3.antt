@@ -7,7 +7,7 @@ use mathlib.Core.Bool.{Bool}
 use mathlib.Core.List.{List}
 use Prim.Native.Nat.{_^_}
 use Rattle.floats.proofs.Ticks.{tick}
-use Rattle.block.specs.Account.{Accounted, chain, Phases32}
+use Rattle.block.specs.Account.{Accounted, Phases32}
 use Rattle.block.specs.Oscillator.{callOf, countsOf, chainOf}
 use Rattle.block.proofs.Oscillators.{chain-accounted, samples-limited}
 use Rattle.block.specs.Limits.{EachLimited}
@@ -51,9 +51,10 @@ pub nes-triangle : (s : NesState.State) (calls : List Nes.Arguments) → Phases3
 unfolding tick
 nes-triangle s calls f = chain-accounted NesPhase.laws s f calls
 
-pub string-synth : (s : StringState.State) (calls : List String.Arguments) → String.Phase32 s
-    → (let r = chain String.callOf String.usedOf s calls in Accounted (2 ^ 152) (2 ^ 128) (s .phase) (r .cycles) (r .state .phase) (r .steps))
-string-synth = StringPhase.chain-accounted
+pub string-synth : (s : StringState.State) (calls : List String.Arguments) → Phases32 String.stringSynth s
+    → (let r = chainOf String.stringSynth s calls in Accounted (2 ^ 152) (2 ^ 128) (s .phase) (r .cycles) (r .state .phase) (r .steps))
+unfolding tick
+string-synth s calls f = chain-accounted StringPhase.laws s f calls
 
 -- the limits: of each sample of an answered call, whatever state it starts from
 pub super-square-limits : (s : SuperSquareState.State) (a : SuperSquare.Arguments) → Phases32 SuperSquare.superSquare s → callOf SuperSquare.superSquare s a .number ≡ 0 → EachLimited (countsOf SuperSquare.superSquare s a)
@@ -68,5 +69,5 @@ variable-saw-limits s a f = samples-limited SawPhase.laws s f a
 pub nes-triangle-limits : (s : NesState.State) (a : Nes.Arguments) → Phases32 Nes.nesTriangle s → callOf Nes.nesTriangle s a .number ≡ 0 → EachLimited (countsOf Nes.nesTriangle s a)
 nes-triangle-limits s a f = samples-limited NesPhase.laws s f a
 
-pub string-synth-limits : (s : StringState.State) (a : String.Arguments) → String.Phase32 s → String.callOf s a .number ≡ 0 → EachLimited (String.countsOf s a)
-string-synth-limits = StringPhase.samples-limited
+pub string-synth-limits : (s : StringState.State) (a : String.Arguments) → Phases32 String.stringSynth s → callOf String.stringSynth s a .number ≡ 0 → EachLimited (countsOf String.stringSynth s a)
+string-synth-limits s a f = samples-limited StringPhase.laws s f a

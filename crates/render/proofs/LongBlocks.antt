@@ -4,7 +4,7 @@ use mathlib.Core.Bool.{Bool, true, false}
 use mathlib.Core.List.{List}
 use Prim.Native.Nat.{ℕ, zero, suc, _-_, _≤_, _<_}
 use native.Mathlib.Omega.{arith}
-use borrow.Author.Tests.{lt-ltb, leb-true, leb-false}
+use borrow.Author.Tests.{leb-true, leb-false}
 use lib.Dec.{leb}
 use lib.ListN.{length, take, length-replicate}
 use lib.Ieee.{Float}
@@ -18,16 +18,15 @@ use Rattle.super_square.specs.Block as Square
 use Rattle.nes_triangle.specs.Block as Nes
 use Rattle.string_synth.specs.Block as Strings
 use Rattle.render.specs.declared.bank.Bank.{Bank}
-use Rattle.render.specs.Bank.{shapePlayed, sawPlayed, superSquarePlayed, nesPlayed, settingsPlayed, silence}
+use Rattle.render.specs.Bank.{shapePlayed, sawPlayed, superSquarePlayed, nesPlayed, stringPlayed, settingsPlayed, silence}
 use Rattle.render.specs.Private.{lentOf}
 
 long-same : (b : Bank) (registration xs ys : List Float) → 4096 < length xs → 4096 < length ys → (s : Settings) → settingsPlayed b s registration xs ≡ settingsPlayed b s registration ys
-unfolding Strings.renderOf
 long-same b registration xs ys p q (VariableShape f m w v d sync out) = ap (shapePlayed b) (long-refused (Shape.variableShape sync) (b .shape) _ p) ∙ sym (ap (shapePlayed b) (long-refused (Shape.variableShape sync) (b .shape) _ q))
 long-same b registration xs ys p q (VariableSaw f w v) = ap (sawPlayed b) (long-refused Saw.variableSaw (b .saw) _ p) ∙ sym (ap (sawPlayed b) (long-refused Saw.variableSaw (b .saw) _ q))
 long-same b registration xs ys p q (SuperSquare f h) = ap (superSquarePlayed b) (long-refused Square.superSquare (b .«super_square») _ p) ∙ sym (ap (superSquarePlayed b) (long-refused Square.superSquare (b .«super_square») _ q))
 long-same b registration xs ys p q (NesTriangle f n) = ap (nesPlayed b) (long-refused Nes.nesTriangle (b .nes) _ p) ∙ sym (ap (nesPlayed b) (long-refused Nes.nesTriangle (b .nes) _ q))
-long-same b registration xs ys p q (StringSynth f g) = rw (lt-ltb 4096 (length xs) p, lt-ltb 4096 (length ys) q)
+long-same b registration xs ys p q (StringSynth f g) = ap (stringPlayed b) (long-refused Strings.stringSynth (b .string) _ p) ∙ sym (ap (stringPlayed b) (long-refused Strings.stringSynth (b .string) _ q))
 
 take-silence : (n m : ℕ) → n ≤ m → take n (silence m) ≡ silence n
 take-silence zero m h = refl

@@ -16,7 +16,7 @@ use Rattle.rooms.specs.declared.Room.the-variants.{StringFrequency, Sixteen}
 use Rattle.ranges.specs.Ranges.{sixteenIn}
 use Rattle.rooms.specs.Rooms.{inRoom}
 use Rattle.rooms.specs.Steps.{allIn}
-use Rattle.ranges.proofs.Bools.{and-both}
+use Rattle.ranges.proofs.Bools.{and-both, of-each}
 use Rattle.block.proofs.Plays.{Inside, Keeps}
 use Rattle.states.specs.declared.string_synth.State.{State}
 use Rattle.string_synth.specs.declared.sample.Saws.{Saws}
@@ -90,7 +90,7 @@ stepped-of s (f ∷ a ∷ b ∷ c ∷ d ∷ []) v i =
     let b' = and-both (sixteenIn b) (allIn (Sixteen ∷ Sixteen ∷ []) (c ∷ d ∷ [])) (a' .1) in
     let c' = and-both (sixteenIn c) (allIn (Sixteen ∷ []) (d ∷ [])) (b' .1) in
     let d' = and-both (sixteenIn d) true (c' .1) in
-    record { ready = record { valid = v; step = positive-of (i .fit .0) (q .0) (q .1) topStringStep-at }; gains = rw (a' .0, b' .0, c' .0, d' .0) }
+    record { ready = record { valid = v; step = positive-of (i .fit .0) (q .0) (q .1) topStringStep-at }; gains = of-each _ (a' .0, (b' .0, (c' .0, (d' .0, tt)))) }
 stepped-of s [] v i = absurd (omega (arith, i .long))
 stepped-of s (f ∷ []) v i = absurd (omega (arith, i .long))
 stepped-of s (f ∷ a ∷ []) v i = absurd (omega (arith, i .long))

@@ -1,10 +1,11 @@
 // A mixture of saws and squares in the style of divide-down organs: the source's oscillator/string_synth_oscillator.rs.
 ghost use mathlib.Core.Path.{_≡_};
+ghost use mathlib.Core.Bool.{_&&_};
 ghost use Rattle.rooms.specs.Steps.{stepsOf, firstOutside};
 ghost use Rattle.block.specs.Calls.{run};
 ghost use Rattle.block.specs.Fit.{Fit, Playable, playedOf};
 ghost use Rattle.string_synth.specs.Sample.{sampleAt};
-ghost use Rattle.string_synth.specs.Block.{placeIn, gainsIn, stateIn, registrationIn, parametersIn, rooms, renderOf, left};
+ghost use Rattle.string_synth.specs.Block.{stringPhaseIn, segmentIn, gainsIn, stateIn, registrationIn, parametersIn, rooms, renderOf, left};
 ghost use Rattle.string_synth.specs.Private.{Valid, refused};
 use block::Answer;
 use block::Counts;
@@ -66,7 +67,7 @@ fn state_in(s: State) -> bool
 }
 
 fn place_in(s: State) -> bool
-    ensures { λ r. ⌜ r ≡ placeIn s ⌝ }
+    ensures { λ r. ⌜ r ≡ (stringPhaseIn (s .phase) && segmentIn (s .segment)) ⌝ }
 {
     ((0.0 <= s.phase) & (s.phase < 8.0)) & ((0 <= s.segment) & (s.segment <= 7))
 }

@@ -4,31 +4,29 @@ use mathlib.Core.Path.{_≡_, refl}
 use mathlib.Core.Bool.{Bool, true, false, _&&_, cond}
 use mathlib.Core.List.{List}
 use Prim.Native.Nat.{ℕ}
-use lib.Dec.{eqb, ltb}
+use lib.Dec.{eqb, ltb, leb}
 use lib.ListN.{length, getD}
-use lib.Ieee.{Float, lt, le}
-use Rattle.floats.specs.F32.{zero32, eight32, topStringStep}
-use Rattle.ranges.specs.Ranges.{within}
-use Rattle.string_synth.specs.Block.{gainsIn, stateIn, renderOf}
-use Rattle.words.specs.Face.{faceOf, refusedFace}
-use Rattle.string_synth_face.specs.Words.{stateOf, renderFace}
+use lib.Ieee.{Float}
+use Rattle.ranges.specs.Ranges.{allOf}
+use Rattle.block.specs.Checks.{here, later}
+use Rattle.string_synth.specs.Block.{stringPhaseIn, stateIn, stringSynth}
+use Rattle.words.specs.Face.{refusedFace}
+use Rattle.words.proofs.Faces.{refused-face}
+use Rattle.string_synth_face.specs.Words.{stateOf, wordsOf, renderFace}
 
 outside : (w : List ℕ) → ltb (getD w 2 0) 0x8000_0000 ≡ false → stateIn (stateOf w) ≡ false
-unfolding stateOf stateIn
-outside w h =
-    let s = stateOf w in
-    rw h (go (le zero32 (s .phase) && lt (s .phase) eight32) (within zero32 topStringStep (s .frequency)) (gainsIn (s .«saw_8_gain») (s .«saw_4_gain») (s .«saw_2_gain») (s .«saw_1_gain»)))
+unfolding stateOf stateIn allOf
+outside w h = rw h (go (stringPhaseIn (stateOf w .phase)))
   where
-    go : (a b c : Bool) → (((a && false) && b) && c) ≡ false
-    go true b c = refl
-    go false b c = refl
+    go : (a : Bool) → (a && false) ≡ false
+    go true = refl
+    go false = refl
 
 pub negative-segment : (w : List ℕ) (frequency : Float) (registration : List Float) (gain : Float) (xs : List Float) → ltb (getD w 2 0) 0x8000_0000 ≡ false
-    → renderFace w frequency registration gain xs ≡ refusedFace (cond (ltb 4096 (length xs)) 1 (cond (eqb (length registration) 7) 3 2)) w xs
-unfolding faceOf renderOf
-negative-segment w frequency registration gain xs h = go (ltb 4096 (length xs)) (eqb (length registration) 7) refl refl
+    → renderFace w frequency registration gain xs ≡ refusedFace (cond (leb (length xs) 4096) (cond (eqb (length registration) 7) 3 2) 1) w xs
+negative-segment w frequency registration gain xs h = go (leb (length xs) 4096) (eqb (length registration) 7) refl refl
   where
-    go : (b c : Bool) → ltb 4096 (length xs) ≡ b → eqb (length registration) 7 ≡ c → renderFace w frequency registration gain xs ≡ refusedFace (cond b 1 (cond c 3 2)) w xs
-    go true c e f = rw e refl
-    go false true e f = rw (e, f, outside w h) refl
-    go false false e f = rw (e, f) refl
+    go : (b c : Bool) → leb (length xs) 4096 ≡ b → eqb (length registration) 7 ≡ c → renderFace w frequency registration gain xs ≡ refusedFace (cond b (cond c 3 2) 1) w xs
+    go false c e f = refused-face stringSynth wordsOf w (stateOf w) _ (here e) refl
+    go true false e f = refused-face stringSynth wordsOf w (stateOf w) _ (later e (here f)) refl
+    go true true e f = refused-face stringSynth wordsOf w (stateOf w) _ (later e (later f (here (outside w h)))) refl

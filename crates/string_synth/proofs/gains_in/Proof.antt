@@ -1,5 +1,6 @@
 -- `string_synth::gains_in` meets its contract. Assumes nothing.
-use mathlib.Core.Path.{refl}
+use mathlib.Core.List.{[], _∷_}
+use Rattle.ranges.proofs.Bools.{joined-all}
 use Rattle.string_synth.specs.Block.{gainsIn}
 use borrow.Author.Needs.{needs}
 use Rattle.string_synth.proofs.gains_in.Statement.{statement}
@@ -19,7 +20,7 @@ sixteen-in-requires-4 c κs = search needs
 
 returns : tie.Need-returns
 unfolding gainsIn
-returns c = rw (c .before .before .before .sixteen-in .ensures, c .before .before .sixteen-in2 .ensures, c .before .sixteen-in3 .ensures, c .sixteen-in4 .ensures) refl
+returns c = rw (c .before .before .before .sixteen-in .ensures, c .before .before .sixteen-in2 .ensures, c .before .sixteen-in3 .ensures, c .sixteen-in4 .ensures) (joined-all _ (_ ∷ _ ∷ _ ∷ []))
 
 pub gains-in-spec : {M : Type 1} → statement M
 gains-in-spec =

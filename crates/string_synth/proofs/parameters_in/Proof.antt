@@ -1,5 +1,6 @@
 -- `string_synth::parameters_in` meets its contract. Assumes nothing.
-use mathlib.Core.Path.{refl}
+use mathlib.Core.List.{[], _∷_}
+use Rattle.ranges.proofs.Bools.{joined-all}
 use Rattle.string_synth.specs.Block.{parametersIn}
 use borrow.Author.Needs.{needs}
 use Rattle.string_synth.proofs.parameters_in.Statement.{statement}
@@ -16,7 +17,7 @@ within-requires c κs = search needs
 
 returns : tie.Need-returns
 unfolding parametersIn
-returns c = rw (c .before .before .parameter-frequency-in .ensures, c .before .registration-in .ensures, c .within .ensures) refl
+returns c = rw (c .before .before .parameter-frequency-in .ensures, c .before .registration-in .ensures, c .within .ensures) (joined-all _ (_ ∷ _ ∷ []))
 
 pub parameters-in-spec : {M : Type 1} → statement M
 parameters-in-spec =

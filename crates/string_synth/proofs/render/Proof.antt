@@ -1,8 +1,12 @@
 -- `string_synth::render` meets its contract: each way out is the definition's. Assumes nothing.
-use mathlib.Core.Path.{_∙_, sym, subst}
+use mathlib.Core.Path.{_∙_, sym, ap, subst}
+use mathlib.Core.Bool.{not}
 use lib.Dec.{T}
-use borrow.Author.Tests.{not-true, not-false}
-use Rattle.string_synth.proofs.Calls.{long-block, bad-registration, bad-state, bad-param, too-high, valid-of, rendered}
+use borrow.Author.Tests.{not-true, not-false, le-leb, lt-leb, eq-eqb, ne-eqb}
+use Rattle.block.specs.Checks.{here, later}
+use Rattle.block.proofs.Ways.{refused-by}
+use Rattle.string_synth.specs.Block.{stringSynth}
+use Rattle.string_synth.proofs.Calls.{valid-of, rendered}
 use borrow.Author.Needs.{needs}
 use Rattle.string_synth.proofs.render.Statement.{statement}
 use Rattle.string_synth.proofs.render.Tie as tie
@@ -11,13 +15,13 @@ refuse-requires : tie.Need-refuse-requires
 refuse-requires c κs = search needs
 
 returns : tie.Need-returns
-returns c = long-block _ _ _ _ _ _ (c .before .if1 .taken) (c .refuse .ensures)
+returns c = rw (c .refuse .ensures) (sym (refused-by stringSynth _ _ (here (lt-leb _ _ (c .before .if1 .taken)))))
 
 refuse-requires-2 : tie.Need-refuse-requires-2
 refuse-requires-2 c κs = search needs
 
 returns-2 : tie.Need-returns-2
-returns-2 c = bad-registration _ _ _ _ _ _ (c .before .before .if1 .left) (c .before .if2 .taken) (c .refuse2 .ensures)
+returns-2 c = rw (c .refuse2 .ensures) (sym (refused-by stringSynth _ _ (later (le-leb _ _ (c .before .before .if1 .left)) (here (ne-eqb _ _ (c .before .if2 .taken))))))
 
 state-in-requires : tie.Need-state-in-requires
 state-in-requires c κs = search needs
@@ -28,7 +32,8 @@ refuse-requires-3 c κs = search needs
 returns-3 : tie.Need-returns-3
 returns-3 c =
     let t = c .before .before in
-    bad-state _ _ _ _ _ _ (t .before .before .if1 .left) (t .before .if2 .left) (sym (t .state-in .ensures) ∙ not-true _ (c .before .if3 .taken)) (c .refuse3 .ensures)
+    rw (c .refuse3 .ensures)
+    (sym (refused-by stringSynth _ _ (later (le-leb _ _ (t .before .before .if1 .left)) (later (eq-eqb _ _ (t .before .if2 .left)) (here (sym (t .state-in .ensures) ∙ not-true _ (c .before .if3 .taken)))))))
 
 parameters-in-requires : tie.Need-parameters-in-requires
 parameters-in-requires c κs = search needs
@@ -40,7 +45,8 @@ returns-4 : tie.Need-returns-4
 returns-4 c =
     let p = c .before .before in
     let t = p .before .before in
-    bad-param _ _ _ _ _ _ (t .before .before .if1 .left) (t .before .if2 .left) (sym (t .state-in .ensures) ∙ not-false _ (p .before .if3 .left)) (sym (p .parameters-in .ensures) ∙ not-true _ (c .before .if4 .taken)) (c .refuse4 .ensures)
+    rw (c .refuse4 .ensures)
+    (sym (refused-by stringSynth _ _ (later (le-leb _ _ (t .before .before .if1 .left)) (later (eq-eqb _ _ (t .before .if2 .left)) (later (sym (t .state-in .ensures) ∙ not-false _ (p .before .if3 .left)) (here (sym (p .parameters-in .ensures) ∙ not-true _ (c .before .if4 .taken))))))))
 
 refuse-requires-5 : tie.Need-refuse-requires-5
 refuse-requires-5 c κs = search needs
@@ -50,7 +56,8 @@ returns-5 c =
     let e = c .before .before in
     let p = e .before in
     let t = p .before .before in
-    too-high _ _ _ _ _ _ (t .before .before .if1 .left) (t .before .if2 .left) (sym (t .state-in .ensures) ∙ not-false _ (p .before .if3 .left)) (sym (p .parameters-in .ensures) ∙ not-false _ (e .if4 .left)) (c .before .if5 .taken) (c .refuse5 .ensures)
+    rw (c .refuse5 .ensures)
+    (sym (refused-by stringSynth _ _ (later (le-leb _ _ (t .before .before .if1 .left)) (later (eq-eqb _ _ (t .before .if2 .left)) (later (sym (t .state-in .ensures) ∙ not-false _ (p .before .if3 .left)) (later (sym (p .parameters-in .ensures) ∙ not-false _ (e .if4 .left)) (here (ap not (c .before .if5 .taken)))))))))
 
 cast-n : tie.Need-cast-n
 cast-n c = search needs
@@ -67,7 +74,7 @@ drift-or-play-requires c κs =
     let t = e .before .before .before .before in
     let l = t .before .before in
     let g = l .before .before .before .good .0 in
-    record { short = l .if1 .left; valid = valid-of _ (subst T (sym (g .1 .1 .0 .1)) tt) (sym (t .state-in .ensures) ∙ not-false _ (e .before .before .before .if3 .left)) }
+    record { short = l .if1 .left; valid = valid-of _ (subst T (sym (g .1 .1 .0 .1)) tt, tt) (sym (t .state-in .ensures) ∙ not-false _ (e .before .before .before .if3 .left)) }
 
 same-length : tie.Need-same-length
 same-length c = search needs
@@ -81,8 +88,8 @@ returns-6 c =
     let e = h .before in
     let p = e .before in
     let t = p .before .before in
-    rendered _ _ _ _ _ (d .drift-or-play .result) (t .before .before .if1 .left) (t .before .if2 .left) (sym (t .state-in .ensures) ∙ not-false _ (p .before .if3 .left)) (sym (p .parameters-in .ensures) ∙ not-false _ (e .if4 .left))
-    (h .if5 .left) _ _ _ (to .targets .ensures) (m .start .ensures) (d .drift-or-play .ensures)
+    rendered _ _ _ (le-leb _ _ (t .before .before .if1 .left), (eq-eqb _ _ (t .before .if2 .left), (sym (t .state-in .ensures) ∙ not-false _ (p .before .if3 .left), (sym (p .parameters-in .ensures) ∙ not-false _ (e .if4 .left), (ap not (h .if5 .left), tt)))))
+    _ _ (to .targets .ensures) (m .start .ensures) (d .drift-or-play .ensures)
 
 pub render-spec : {M : Type 1} → statement M
 render-spec =

@@ -1,5 +1,6 @@
 -- `string_synth::state_in` meets its contract. Assumes nothing.
-use mathlib.Core.Path.{refl}
+use mathlib.Core.List.{[], _∷_}
+use Rattle.ranges.proofs.Bools.{joined-all}
 use Rattle.string_synth.specs.Block.{stateIn}
 use borrow.Author.Needs.{needs}
 use Rattle.string_synth.proofs.state_in.Statement.{statement}
@@ -16,7 +17,7 @@ gains-in-requires c κs = search needs
 
 returns : tie.Need-returns
 unfolding stateIn
-returns c = rw (c .before .before .place-in .ensures, c .before .within .ensures, c .gains-in .ensures) refl
+returns c = rw (c .before .before .place-in .ensures, c .before .within .ensures, c .gains-in .ensures) (joined-all _ (_ ∷ _ ∷ _ ∷ []))
 
 pub state-in-spec : {M : Type 1} → statement M
 state-in-spec = tie.close (tie.spec place-in-requires within-requires gains-in-requires returns)
