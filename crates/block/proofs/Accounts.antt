@@ -1,30 +1,16 @@
--- Demand 3 for any oscillator: from the law of one sample to a block, and from blocks to any chain of calls, in which refused and empty blocks add nothing.
--- Assumes nothing.
-use mathlib.Core.Path.{_≡_, refl, sym, _∙_, subst}
-use mathlib.Core.Logic.{_⊎_, ⊎-elim}
+-- The account of demand 3, for any oscillator: from the law of one sample to a run of samples, and from runs to what they come to together. Assumes nothing.
+use mathlib.Core.Path.{_≡_, refl, sym, subst}
 use mathlib.Core.List.{List, [], _∷_, _++_}
-use Prim.Native.Nat.{ℕ, zero, suc, _+_, _*_, zero-le}
-use native.Mathlib.Nat.{zero-add, add-zero, add-assoc, zero-mul}
+use Prim.Native.Nat.{ℕ, _+_, _*_, zero-le}
+use native.Mathlib.Nat.{zero-add, add-assoc, zero-mul}
 use native.Mathlib.Omega.{arith}
-use lib.IntN.{pos, _+ℤ_, pos-+ℤ-pos, +ℤ-idl, +ℤ-idr, +ℤ-invr}
-use lib.ListN.{length, getD, length-append}
+use lib.IntN.{pos, pos-+ℤ-pos, +ℤ-idl, +ℤ-idr, +ℤ-invr}
+use lib.ListN.{length, length-append}
 use lib.Ieee.{Float}
-use Rattle.floats.specs.F32.{zero32}
 use Rattle.floats.proofs.Rounding.{Within}
 use Rattle.floats.proofs.At.{At, at-units, at-unique}
 use Rattle.floats.proofs.Integers.{within→abs}
-use Rattle.parameter_interpolator.specs.declared.ParameterInterpolator.{ParameterInterpolator}
-use Rattle.block.specs.declared.Counts.{Counts}
-use Rattle.rooms.specs.declared.Room.{Room}
-use Rattle.rooms.specs.declared.Found.the-variants.{Nowhere}
-use Rattle.block.specs.Counting.{plus}
-use Rattle.rooms.specs.Steps.{moved, values, stepsOf, firstOutside}
-use Rattle.block.specs.Play.{Sample, Heard, play}
-use Rattle.block.specs.Calls.{Call}
-use Rattle.block.specs.Account.{sumUnits, Accounted, chain}
-use Rattle.block.specs.Oscillator.{column}
-use Rattle.rooms.proofs.Padding.{moved-length}
-use Rattle.block.proofs.Plays.{Inside, Keeps, nowhere-first}
+use Rattle.block.specs.Account.{sumUnits, Accounted}
 
 -- the values of a list of steps, each not below zero, come to n units
 pub data Sums : List Float → ℕ → Type 0 where
@@ -110,69 +96,3 @@ module _ {S : Type 0} {phase : S → Float} {w e : ℕ} where
   told-join {s} {u = u} {k = k} {ys = ys} stood r = subst (λ (n : ℕ). Told phase w e s u n ys) (sym (zero-add k)) r
   told-join (went r) stood = went (steps-join r (steps-none w e (r .last-at)))
   told-join (went r) (went q) = went (steps-join r q)
-
--- ---- a block
-module _ {S : Type 0} (make : S → List Float → Float → Sample S) (rooms : List Room) (Ok : S → Type 0) (keeps : Keeps make rooms Ok) (phase : S → Float) (k w e : ℕ)
-    (one : (s : S) (steps : List Float) (x : Float) → Ok s → Inside rooms steps → OneSample w e (phase s) (getD steps k zero32) (make s steps x .counts .cycles) (phase (make s steps x .state)))
-    (at : (s : S) → Ok s → (n : ℕ) × At (phase s) n) where
-  -- what a run leaves, from the counts c on
-  pub record Leaves (s : S) (c : Counts) (used : List Float) (h : Heard S) : Type 0 where
-    pub ok : Ok (h .state)
-    pub cycles : ℕ
-    pub counted : h .counts .cycles ≡ c .cycles + cycles
-    pub steps : Steps w e (phase s) cycles (phase (h .state)) used
-
-  pub block-law : (m : ℕ) (ps : List ParameterInterpolator) (xs : List Float) (s : S) (c : Counts) → length xs ≡ m → length ps ≡ length rooms → firstOutside rooms (stepsOf m ps) ≡ Nowhere → Ok s
-      → Leaves s c (column k (stepsOf m ps)) (play make s c (stepsOf m ps) xs)
-  unfolding play stepsOf column
-  block-law zero ps xs s c l q i o = record { ok = o; cycles = 0; counted = sym (add-zero (c .cycles)); steps = steps-none w e (at s o .1) }
-  block-law (suc m) ps [] s c l q i o = absurd (omega arith)
-  block-law (suc m) ps (x ∷ xs) s c l q i o =
-      let f = nowhere-first rooms m ps q i in
-      let t = make s (values (moved ps)) x in
-      let g = one s (values (moved ps)) x o (f .0) in
-      let r = block-law m (moved ps) xs (t .state) (plus c (t .counts)) (omega arith) (moved-length ps ∙ q) (f .1) (keeps s (values (moved ps)) x o (f .0) .ok) in
-      record { ok = r .ok; cycles = t .counts .cycles + r .cycles; counted = r .counted ∙ add-assoc (c .cycles) (t .counts .cycles) (r .cycles); steps = steps-join (steps-one g) (r .steps) }
-
--- ---- any chain of calls. From a state that every call refuses nothing is ever counted; from another, each call's law joins.
-pub record CallLaw {S : Type 0} (Ok : S → Type 0) (phase : S → Float) (w e : ℕ) (s : S) (used : List Float) (c : Call S) : Type 0 where
-  pub ok : Ok (c .state)
-  pub steps : Steps w e (phase s) (c .counts .cycles) (phase (c .state)) used
-
-pub record Untouched {S : Type 0} (s : S) (used : List Float) (c : Call S) : Type 0 where
-  pub state : c .state ≡ s
-  pub cycles : c .counts .cycles ≡ 0
-  pub none-used : used ≡ []
-
-module _ {S A : Type 0} (call : S → A → Call S) (used : S → A → List Float) (Ok : S → Type 0) (phase : S → Float) (w e : ℕ) where
-  pub chain-law : ((s : S) (a : A) → Ok s → CallLaw Ok phase w e s (used s a) (call s a)) → ((s : S) → Ok s → (n : ℕ) × At (phase s) n)
-      → (s : S) (calls : List A) → Ok s → (let r = chain call used s calls in Ok (r .state) × Steps w e (phase s) (r .cycles) (phase (r .state)) (r .steps))
-  unfolding chain
-  chain-law law at s [] o = (o, steps-none w e (at s o .1))
-  chain-law law at s (a ∷ calls) o =
-      let l = law s a o in
-      let r = chain-law law at (call s a .state) calls (l .ok) in
-      (r .0, steps-join (l .steps) (r .1))
-
-  pub chain-refused : (s : S) → ((a : A) → Untouched s (used s a) (call s a)) → (calls : List A) → chain call used s calls ≡ record { state = s; cycles = 0; steps = [] }
-  unfolding chain
-  chain-refused s law [] = refl
-  chain-refused s law (a ∷ calls) = let u = law a in rw (u .state, u .cycles, u .none-used, chain-refused s law calls)
-
--- demand 3 from any state, be it Ok or one that every call refuses
-module _ {S A : Type 0} (call : S → A → Call S) (used : S → A → List Float) (Ok : S → Type 0) (phase : S → Float) (w e : ℕ)
-    (law : (s : S) (a : A) → Ok s → CallLaw Ok phase w e s (used s a) (call s a)) (at : (s : S) → Ok s → (n : ℕ) × At (phase s) n) (s : S)
-    (start : Ok s ⊎ ((a : A) → Untouched s (used s a) (call s a))) where
-  -- for one call
-  pub call-accounts : (a : A) → Accounted w e (phase s) (call s a .counts .cycles) (phase (call s a .state)) (used s a)
-  call-accounts a = ⊎-elim
-      (λ (o : Ok s). steps-accounted (law s a o .steps))
-      (λ (u : (a : A) → Untouched s (used s a) (call s a)). rw (u a .state, u a .cycles, u a .none-used) (nothing w e (phase s)))
-      start
-
-  -- for any chain of calls
-  pub chain-accounts : (calls : List A) → (let r = chain call used s calls in Accounted w e (phase s) (r .cycles) (phase (r .state)) (r .steps))
-  chain-accounts calls = ⊎-elim
-      (λ (o : Ok s). steps-accounted (chain-law call used Ok phase w e law at s calls o .1))
-      (λ (u : (a : A) → Untouched s (used s a) (call s a)). rw (chain-refused call used Ok phase w e s u calls) (nothing w e (phase s)))
-      start

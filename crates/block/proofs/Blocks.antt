@@ -19,7 +19,8 @@ use Rattle.block.specs.Checks.{AllPass}
 use Rattle.block.specs.Oscillator.{Oscillator, sampleCounts, column}
 use Rattle.block.specs.Limits.{Limited, EachLimited, Few, Balanced, NeitherFallsNorCuts}
 use Rattle.block.specs.Account.{Phases32}
-use Rattle.block.proofs.Plays.{few-more, Inside, Keeps, nowhere-first}
+use Rattle.block.specs.Fit.{Inside}
+use Rattle.block.proofs.Plays.{few-more, Keeps, nowhere-first}
 use Rattle.block.proofs.Accounts.{OneSample, steps-one, Told, stood, went, told-join}
 use Rattle.block.proofs.Ways.{Numbered}
 

@@ -11,7 +11,7 @@ use Rattle.rooms.specs.declared.Room.{Room}
 use Rattle.rooms.specs.Rooms.{inRoom}
 use Rattle.rooms.specs.Steps.{allIn}
 use Rattle.ranges.proofs.Bools.{and-both}
-use Rattle.block.proofs.Plays.{Inside}
+use Rattle.block.specs.Fit.{Inside}
 
 pub record Stands (r : Room) (x : Float) : Type 0 where
   pub fit : T (fits binary32 x)

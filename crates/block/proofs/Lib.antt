@@ -4,9 +4,6 @@ pub mod InsideAt
 pub mod Runs
 pub mod Ways
 pub mod Accounts
-pub mod Limits
-pub mod CallLaws
-pub mod Neither
 pub mod Blocks
 pub mod Oscillators
 pub mod Contracts

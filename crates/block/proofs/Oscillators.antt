@@ -19,7 +19,8 @@ use Rattle.block.specs.Checks.{AllPass, here}
 use Rattle.block.specs.Oscillator.{Oscillator, checksOf, callOf, stepsIn, heardOf, countsOf, column, usedOf, chainOf, Way, refused, drifted, answered}
 use Rattle.block.specs.Limits.{EachLimited, Few, Balanced, NeitherFallsNorCuts}
 use Rattle.block.specs.Account.{Accounted, Phases32}
-use Rattle.block.proofs.Plays.{few-none, few-most, Inside}
+use Rattle.block.specs.Fit.{Inside}
+use Rattle.block.proofs.Plays.{few-none, few-most}
 use Rattle.block.proofs.Accounts.{Told, stood, told-accounted, told-join, steps-one, steps-accounted}
 use Rattle.block.proofs.Ways.{not-done, refused-by, goes, way, by-ways}
 use Rattle.block.proofs.Blocks.{Laws, play-total, play-neither, Coming, block-limited, block-few, block-balanced, block-told}

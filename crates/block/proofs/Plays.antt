@@ -2,7 +2,7 @@
 use mathlib.Core.Path.{_≡_, refl, sym, _∙_, ap, subst}
 use mathlib.Core.Bool.{Bool, true, false, cond}
 use mathlib.Core.List.{List, [], _∷_, _++_, append-nil}
-use Prim.Native.Nat.{ℕ, suc, _+_, _-_, _*_, _%_, _^_, _≤_, _<_}
+use Prim.Native.Nat.{ℕ, suc, _+_, _-_, _%_, _^_, _≤_, _<_}
 use native.Mathlib.Numerals.{add-one}
 use native.Mathlib.Nat.{mod-eq-of-lt}
 use native.Mathlib.Omega.{arith}
@@ -15,12 +15,17 @@ use Rattle.block.specs.declared.Counts.{Counts}
 use Rattle.rooms.specs.declared.Room.{Room}
 use Rattle.rooms.specs.declared.Found.{Found}
 use Rattle.rooms.specs.declared.Found.the-variants.{Outside, Nowhere}
-use Rattle.block.specs.Counting.{noCounts, plus, wrapped}
+use Rattle.block.specs.Counting.{noCounts, plus, wrapped, oneIf}
 use Rattle.rooms.specs.Steps.{moved, values, stepsOf, allIn, later, firstOutside}
 use Rattle.block.specs.Play.{Sample, Heard, play}
 use Rattle.block.specs.Limits.{Few}
 use Rattle.block.specs.Account.{AllFit}
+use Rattle.block.specs.Fit.{Inside}
 use Rattle.rooms.proofs.Padding.{moved-length, values-length}
+
+pub one-most : (b : Bool) → oneIf b ≤ 1
+one-most true = omega arith
+one-most false = omega arith
 
 pub few-none : Few 0 noCounts
 few-none = record { cycles = omega arith; rises = omega arith; falls = omega arith; cuts = omega arith }
@@ -50,12 +55,6 @@ pub steps-fit : (ps : List ParameterInterpolator) → AllFit (values (moved ps))
 unfolding values moved
 steps-fit [] = tt
 steps-fit (p ∷ ps) = (add-fits binary32 (p .value) (p .increment), steps-fit ps)
-
--- the steps of one sample, one for each room, lie in their rooms
-pub record Inside (rs : List Room) (steps : List Float) : Type 0 where
-  pub long : length steps ≡ length rs
-  pub rooms : allIn rs steps ≡ true
-  pub fit : AllFit steps
 
 -- where no step of suc m samples lies outside, the first sample's lie inside, and no other's lies outside
 pub nowhere-first : (rs : List Room) (m : ℕ) (ps : List ParameterInterpolator) → length ps ≡ length rs → firstOutside rs (stepsOf (suc m) ps) ≡ Nowhere

@@ -5,6 +5,6 @@ pub mod Play
 pub mod Calls
 pub mod Checks
 pub mod Oscillator
-pub mod Fit
 pub mod Limits
 pub mod Account
+pub mod Fit

@@ -1,73 +1,61 @@
--- Demand 3: "Chain any answered blocks of one oscillator, each from the state left before, sync never switched and no phase set by hand: the cycles counted, plus the
--- last phase, less the first, differ from the exact sum of the frequency steps used by at most 2^-24 cycle per sample. No sample counts two cycles, two falls or three rises."
--- A chain is a list of calls with any arguments, refused and empty ones among them. `Accounted` reads each float as its exact value, in units of 2^-149.
+-- Demand 3 and the counts of 01, for any oscillator that has the laws, and so for the five.
 -- A cycle is 2^149 units and 2^-24 of it is 2^125; the string's cycle is 8 units of phase, 2^152, and 2^-24 of it is 2^128. Assumes nothing.
-use mathlib.Core.Path.{_≡_}
 use mathlib.Core.Bool.{Bool}
-use mathlib.Core.List.{List}
-use Prim.Native.Nat.{_^_}
+use Prim.Native.Nat.{ℕ, _^_}
 use Rattle.floats.proofs.Ticks.{tick}
-use Rattle.block.specs.Account.{Accounted, Phases32}
-use Rattle.block.specs.Oscillator.{callOf, countsOf, chainOf}
-use Rattle.block.proofs.Oscillators.{chain-accounted, samples-limited}
-use Rattle.block.specs.Limits.{EachLimited}
-use Rattle.states.specs.declared.super_square.State as SuperSquareState
-use Rattle.super_square.specs.Block as SuperSquare
-use Rattle.super_square.proofs.Phase as SuperSquarePhase
-use Rattle.states.specs.declared.variable_shape.State as ShapeState
-use Rattle.variable_shape.specs.Block as Shape
-use Rattle.variable_shape.proofs.Phase as ShapePhase
-use Rattle.states.specs.declared.variable_saw.State as SawState
-use Rattle.variable_saw.specs.Block as Saw
-use Rattle.variable_saw.proofs.Phase as SawPhase
-use Rattle.states.specs.declared.nes_triangle.State as NesState
-use Rattle.nes_triangle.specs.Block as Nes
-use Rattle.nes_triangle.proofs.Phase as NesPhase
-use Rattle.states.specs.declared.string_synth.State as StringState
-use Rattle.string_synth.specs.Block as String
-use Rattle.string_synth.proofs.Phase as StringPhase
+use Rattle.block.specs.Oscillator.{Oscillator}
+use Rattle.block.proofs.Blocks.{Laws}
+use Rattle.block.proofs.Oscillators.{answered-counts, samples-limited, call-balanced, call-neither, chain-accounted}
+use Rattle.super_square.specs.Block.{superSquare}
+use Rattle.super_square.proofs.Phase as SuperSquare
+use Rattle.variable_shape.specs.Block.{variableShape}
+use Rattle.variable_shape.proofs.Phase as Shape
+use Rattle.variable_saw.specs.Block.{variableSaw}
+use Rattle.variable_saw.proofs.Phase as Saw
+use Rattle.nes_triangle.specs.Block.{nesTriangle}
+use Rattle.nes_triangle.proofs.Phase as Nes
+use Rattle.string_synth.specs.Block.{stringSynth}
+use Rattle.string_synth.proofs.Phase as String
+use Rattle.demands.specs.Demand3.{Demand3, Balance, NoFallsNorCuts}
+
+pub demand3 : {S A : Type 0} {o : Oscillator S A} {Valid : A → S → Type 0} {w e : ℕ} → Laws o Valid w e → Demand3 o w e
+demand3 l = record { chain = chain-accounted l; limits = samples-limited l; sum = answered-counts l }
 
 -- the super square's phase is the master's
-pub super-square : (s : SuperSquareState.State) (calls : List SuperSquare.Arguments) → Phases32 SuperSquare.superSquare s
-    → (let r = chainOf SuperSquare.superSquare s calls in Accounted (2 ^ 149) (2 ^ 125) (s .«master_phase») (r .cycles) (r .state .«master_phase») (r .steps))
+pub super-square : Demand3 superSquare (2 ^ 149) (2 ^ 125)
 unfolding tick
-super-square s calls f = chain-accounted SuperSquarePhase.laws s f calls
+super-square = demand3 SuperSquare.laws
 
 -- the variable shape's is the master's with sync and the slave's without; `sync` is one for the whole chain
-pub variable-shape : (sync : Bool) (s : ShapeState.State) → Phases32 (Shape.variableShape sync) s → (calls : List Shape.Arguments)
-    → (let r = chainOf (Shape.variableShape sync) s calls in
-    Accounted (2 ^ 149) (2 ^ 125) (Shape.countedPhase sync s) (r .cycles) (Shape.countedPhase sync (r .state)) (r .steps))
+pub variable-shape : (sync : Bool) → Demand3 (variableShape sync) (2 ^ 149) (2 ^ 125)
 unfolding tick
-variable-shape sync s f calls = chain-accounted (ShapePhase.laws sync) s f calls
+variable-shape sync = demand3 (Shape.laws sync)
 
 -- the other three have one phase
-pub variable-saw : (s : SawState.State) (calls : List Saw.Arguments) → Phases32 Saw.variableSaw s
-    → (let r = chainOf Saw.variableSaw s calls in Accounted (2 ^ 149) (2 ^ 125) (s .phase) (r .cycles) (r .state .phase) (r .steps))
+pub variable-saw : Demand3 variableSaw (2 ^ 149) (2 ^ 125)
 unfolding tick
-variable-saw s calls f = chain-accounted SawPhase.laws s f calls
+variable-saw = demand3 Saw.laws
 
-pub nes-triangle : (s : NesState.State) (calls : List Nes.Arguments) → Phases32 Nes.nesTriangle s
-    → (let r = chainOf Nes.nesTriangle s calls in Accounted (2 ^ 149) (2 ^ 125) (s .phase) (r .cycles) (r .state .phase) (r .steps))
+pub nes-triangle : Demand3 nesTriangle (2 ^ 149) (2 ^ 125)
 unfolding tick
-nes-triangle s calls f = chain-accounted NesPhase.laws s f calls
+nes-triangle = demand3 Nes.laws
 
-pub string-synth : (s : StringState.State) (calls : List String.Arguments) → Phases32 String.stringSynth s
-    → (let r = chainOf String.stringSynth s calls in Accounted (2 ^ 152) (2 ^ 128) (s .phase) (r .cycles) (r .state .phase) (r .steps))
+pub string-synth : Demand3 stringSynth (2 ^ 152) (2 ^ 128)
 unfolding tick
-string-synth s calls f = chain-accounted StringPhase.laws s f calls
+string-synth = demand3 String.laws
 
--- the limits: of each sample of an answered call, whatever state it starts from
-pub super-square-limits : (s : SuperSquareState.State) (a : SuperSquare.Arguments) → Phases32 SuperSquare.superSquare s → callOf SuperSquare.superSquare s a .number ≡ 0 → EachLimited (countsOf SuperSquare.superSquare s a)
-super-square-limits s a f = samples-limited SuperSquarePhase.laws s f a
+-- ---- rises, falls and cuts
+pub super-square-balance : Balance superSquare (λ s. s .high)
+super-square-balance s f a = call-balanced SuperSquare.laws s f a (λ q. q .high) SuperSquare.sample-balanced
 
-pub variable-shape-limits : (sync : Bool) (s : ShapeState.State) → Phases32 (Shape.variableShape sync) s → (a : Shape.Arguments) → callOf (Shape.variableShape sync) s a .number ≡ 0 → EachLimited (countsOf (Shape.variableShape sync) s a)
-variable-shape-limits sync s f a = samples-limited (ShapePhase.laws sync) s f a
+pub variable-shape-balance : (sync : Bool) → Balance (variableShape sync) (λ s. s .high)
+variable-shape-balance sync s f a = call-balanced (Shape.laws sync) s f a (λ q. q .high) (Shape.sample-balanced sync (a .phase-output))
 
-pub variable-saw-limits : (s : SawState.State) (a : Saw.Arguments) → Phases32 Saw.variableSaw s → callOf Saw.variableSaw s a .number ≡ 0 → EachLimited (countsOf Saw.variableSaw s a)
-variable-saw-limits s a f = samples-limited SawPhase.laws s f a
+pub variable-saw-balance : Balance variableSaw (λ s. s .high)
+variable-saw-balance s f a = call-balanced Saw.laws s f a (λ q. q .high) Saw.sample-balanced
 
-pub nes-triangle-limits : (s : NesState.State) (a : Nes.Arguments) → Phases32 Nes.nesTriangle s → callOf Nes.nesTriangle s a .number ≡ 0 → EachLimited (countsOf Nes.nesTriangle s a)
-nes-triangle-limits s a f = samples-limited NesPhase.laws s f a
+pub nes-triangle-neither : NoFallsNorCuts nesTriangle
+nes-triangle-neither = call-neither Nes.laws (λ a. Nes.sample-neither (a .bits))
 
-pub string-synth-limits : (s : StringState.State) (a : String.Arguments) → Phases32 String.stringSynth s → callOf String.stringSynth s a .number ≡ 0 → EachLimited (countsOf String.stringSynth s a)
-string-synth-limits s a f = samples-limited StringPhase.laws s f a
+pub string-synth-neither : NoFallsNorCuts stringSynth
+string-synth-neither = call-neither String.laws (λ a. String.sample-neither)

@@ -12,8 +12,8 @@ use Rattle.floats.proofs.Ranges.{Positive}
 use Rattle.rooms.specs.Steps.{allIn}
 use Rattle.rooms.proofs.RangeLaws.{frequency-step, step-frequency}
 use Rattle.ranges.proofs.Bools.{and-both}
-use Rattle.block.proofs.Limits.{one-most}
-use Rattle.block.proofs.Plays.{Inside, Keeps}
+use Rattle.block.specs.Fit.{Inside}
+use Rattle.block.proofs.Plays.{one-most, Keeps}
 use Rattle.states.specs.declared.nes_triangle.State.{State}
 use Rattle.nes_triangle.specs.declared.depth.Depth.{Depth}
 use Rattle.nes_triangle.specs.declared.sample.Sampled.{Sampled}

@@ -9,12 +9,12 @@ use lib.Pow.{pow-pos}
 use lib.Ieee.{Float, lt, le, ofBits}
 use Rattle.floats.specs.F32.{zero32}
 use Rattle.floats.proofs.Ticks.{tick, cycle}
-use Rattle.ranges.specs.Ranges.{allOf}
 use Rattle.ranges.proofs.Bools.{of-each}
 use Rattle.block.specs.Oscillator.{callOf}
 use Rattle.block.specs.Limits.{NeitherFallsNorCuts}
 use Rattle.block.specs.Account.{Phases32}
-use Rattle.block.proofs.Plays.{Inside, Keeps}
+use Rattle.block.specs.Fit.{Inside}
+use Rattle.block.proofs.Plays.{Keeps}
 use Rattle.block.proofs.Accounts.{OneSample}
 use Rattle.block.proofs.Blocks.{Laws}
 use Rattle.block.proofs.Oscillators.{answered-valid}

@@ -17,7 +17,8 @@ use Rattle.ranges.specs.Ranges.{sixteenIn}
 use Rattle.rooms.specs.Rooms.{inRoom}
 use Rattle.rooms.specs.Steps.{allIn}
 use Rattle.ranges.proofs.Bools.{and-both, of-each}
-use Rattle.block.proofs.Plays.{Inside, Keeps}
+use Rattle.block.specs.Fit.{Inside}
+use Rattle.block.proofs.Plays.{Keeps}
 use Rattle.states.specs.declared.string_synth.State.{State}
 use Rattle.string_synth.specs.declared.sample.Saws.{Saws}
 use Rattle.string_synth.specs.declared.sample.Reached.{Reached}

@@ -1,7 +1,7 @@
 -- What a call of the super square makes sure of, and what `render` leaves once its checks have passed. Assumes nothing.
 use mathlib.Core.Path.{_≡_, sym, _∙_}
 use mathlib.Core.Bool.{true}
-use mathlib.Core.List.{List, [], _∷_}
+use mathlib.Core.List.{[], _∷_}
 use lib.ListN.{length}
 use lib.Ieee.{Float}
 use Rattle.floats.specs.F32.{_⊗_}
@@ -17,7 +17,7 @@ use Rattle.rooms.proofs.RangeLaws.{phase-under, under-phase}
 use Rattle.block.proofs.Ways.{runs}
 use Rattle.states.specs.declared.super_square.State.{State}
 use Rattle.super_square.specs.Sample.{sampleAt}
-use Rattle.super_square.specs.Block.{stateIn, factorOf, rooms, superSquare, renderOf}
+use Rattle.super_square.specs.Block.{stateIn, Arguments, factorOf, rooms, superSquare, renderOf}
 use Rattle.super_square.specs.Private.{Valid}
 
 -- a state that passed its test is valid, and the other way round
@@ -30,8 +30,8 @@ unfolding stateIn
 of-valid s v = of-each _ (under-phase (v .master), (under-phase (v .slave), (v .master-frequency, (v .slave-frequency, tt))))
 
 -- the interpolators that `render` makes are the definition's
-pub rendered : (s : State) (frequency shape : Float) (xs : List Float) (c : Call State) → AllPass (checksOf superSquare s (record { frequency = frequency; shape = shape; buffer = xs }))
-    → (masterTarget factor slaveTarget : Float) (m f : ParameterInterpolator) → masterTarget ≡ clipped frequency → factor ≡ factorOf shape → slaveTarget ≡ clipped (frequency ⊗ factor)
-    → m ≡ newInterpolator (s .«master_frequency») masterTarget (length xs) → f ≡ newInterpolator (s .«slave_frequency») slaveTarget (length xs)
-    → c ≡ run sampleAt rooms (m ∷ f ∷ []) s xs → c ≡ renderOf s frequency shape xs
-rendered s frequency shape xs c p mt fc st m f at-mt at-fc at-st at-m at-f e = e ∙ rw (at-m, at-f, at-mt, at-st, at-fc) (sym (runs superSquare s (record { frequency = frequency; shape = shape; buffer = xs }) p))
+pub rendered : (s : State) (a : Arguments) (c : Call State) → AllPass (checksOf superSquare s a) → (masterTarget factor slaveTarget : Float) (m f : ParameterInterpolator)
+    → masterTarget ≡ clipped (a .frequency) → factor ≡ factorOf (a .shape) → slaveTarget ≡ clipped (a .frequency ⊗ factor)
+    → m ≡ newInterpolator (s .«master_frequency») masterTarget (length (a .buffer)) → f ≡ newInterpolator (s .«slave_frequency») slaveTarget (length (a .buffer))
+    → c ≡ run sampleAt rooms (m ∷ f ∷ []) s (a .buffer) → c ≡ renderOf s (a .frequency) (a .shape) (a .buffer)
+rendered s a c p mt fc st m f at-mt at-fc at-st at-m at-f e = e ∙ rw (at-m, at-f, at-mt, at-st, at-fc) (sym (runs superSquare s a p))

@@ -16,10 +16,10 @@ use Rattle.edges.specs.Sync.{transitionDuringReset, slaveAtReset, wrapOnce, cut
 use Rattle.rooms.specs.Steps.{allIn}
 use Rattle.rooms.proofs.RangeLaws.{frequency-step, step-frequency}
 use Rattle.ranges.proofs.Bools.{and-both}
-use Rattle.block.proofs.Limits.{one-most}
+use Rattle.block.specs.Fit.{Inside}
+use Rattle.block.proofs.Plays.{one-most, Keeps}
 use Rattle.edges.proofs.Crossings.{Crossable, Crossed, crossed-of}
 use Rattle.edges.proofs.CrossingsReset.{cut-crossable, maybe-crossed}
-use Rattle.block.proofs.Plays.{Inside, Keeps}
 use Rattle.states.specs.declared.super_square.State.{State}
 use Rattle.super_square.specs.declared.sample.Sampled.{Sampled}
 use Rattle.super_square.specs.Sample.{level, crossed, edgeOf, finish, resetEdge, resetSample, plainSample, sampleOf, sampleAt}

@@ -10,7 +10,7 @@ use Rattle.ranges.specs.Ranges.{allOf}
 use Rattle.block.specs.Oscillator.{callOf}
 use Rattle.block.specs.Limits.{Balanced}
 use Rattle.block.specs.Account.{Phases32}
-use Rattle.block.proofs.Plays.{Inside}
+use Rattle.block.specs.Fit.{Inside}
 use Rattle.block.proofs.Accounts.{OneSample}
 use Rattle.block.proofs.Blocks.{Laws}
 use Rattle.block.proofs.Oscillators.{answered-valid}

@@ -1,7 +1,7 @@
 -- What a call of the variable saw makes sure of, and what `render` leaves once its checks have passed. Assumes nothing.
 use mathlib.Core.Path.{_≡_, sym, _∙_}
 use mathlib.Core.Bool.{Bool, true, false}
-use mathlib.Core.List.{List, [], _∷_}
+use mathlib.Core.List.{[], _∷_}
 use native.Mathlib.Omega.{arith}
 use lib.Dec.{T}
 use lib.ListN.{length}
@@ -20,7 +20,7 @@ use Rattle.rooms.proofs.RangeLaws.{phase-under, under-phase}
 use Rattle.block.proofs.Ways.{runs}
 use Rattle.states.specs.declared.variable_saw.State.{State}
 use Rattle.variable_saw.specs.Sample.{sampleAt}
-use Rattle.variable_saw.specs.Block.{sawPhaseIn, stateIn, rooms, variableSaw, renderOf}
+use Rattle.variable_saw.specs.Block.{sawPhaseIn, stateIn, Arguments, rooms, variableSaw, renderOf}
 use Rattle.variable_saw.specs.Private.{reach, Valid}
 
 -- a phase that passed its test lies within its reach, and the other way round
@@ -44,9 +44,8 @@ unfolding stateIn
 of-valid s v = of-each _ (of-phase (s .high) (v .phase), (v .previous-pw, (v .frequency, (v .pw, (v .waveshape, tt)))))
 
 -- the interpolators that `render` makes are the definition's
-pub rendered : (s : State) (frequency pw waveshape : Float) (xs : List Float) (c : Call State) → AllPass (checksOf variableSaw s (record { frequency = frequency; pw = pw; waveshape = waveshape; buffer = xs }))
-    → (target width : Float) (f p w : ParameterInterpolator) → target ≡ clipped frequency → width ≡ clampedWidth target pw
-    → f ≡ newInterpolator (s .frequency) target (length xs) → p ≡ newInterpolator (s .pw) width (length xs) → w ≡ newInterpolator (s .waveshape) waveshape (length xs)
-    → c ≡ run sampleAt rooms (f ∷ p ∷ w ∷ []) s xs → c ≡ renderOf s frequency pw waveshape xs
-rendered s frequency pw waveshape xs c q target width f p w at-target at-width at-f at-p at-w e =
-    e ∙ rw (at-f, at-p, at-w, at-width, at-target) (sym (runs variableSaw s (record { frequency = frequency; pw = pw; waveshape = waveshape; buffer = xs }) q))
+pub rendered : (s : State) (a : Arguments) (c : Call State) → AllPass (checksOf variableSaw s a) → (target width : Float) (f p w : ParameterInterpolator)
+    → target ≡ clipped (a .frequency) → width ≡ clampedWidth target (a .pw) → f ≡ newInterpolator (s .frequency) target (length (a .buffer))
+    → p ≡ newInterpolator (s .pw) width (length (a .buffer)) → w ≡ newInterpolator (s .waveshape) (a .waveshape) (length (a .buffer))
+    → c ≡ run sampleAt rooms (f ∷ p ∷ w ∷ []) s (a .buffer) → c ≡ renderOf s (a .frequency) (a .pw) (a .waveshape) (a .buffer)
+rendered s a c q target width f p w at-target at-width at-f at-p at-w e = e ∙ rw (at-f, at-p, at-w, at-width, at-target) (sym (runs variableSaw s a q))

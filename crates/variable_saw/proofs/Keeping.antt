@@ -16,9 +16,9 @@ use Rattle.ranges.specs.Ranges.{unitIn, waveshapeIn}
 use Rattle.block.specs.Limits.{Balanced}
 use Rattle.rooms.specs.Steps.{allIn}
 use Rattle.ranges.proofs.Bools.{and-both}
-use Rattle.block.proofs.Limits.{one-most}
+use Rattle.block.specs.Fit.{Inside}
+use Rattle.block.proofs.Plays.{one-most, Keeps}
 use Rattle.rooms.proofs.RangeLaws.{frequency-step, step-frequency, width-unit}
-use Rattle.block.proofs.Plays.{Inside, Keeps}
 use Rattle.edges.specs.declared.Edge.{Edge}
 use Rattle.states.specs.declared.variable_saw.State.{State}
 use Rattle.variable_saw.specs.declared.sample.Wave.{Wave}

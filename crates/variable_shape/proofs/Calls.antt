@@ -1,9 +1,8 @@
 -- What a call of the variable shape makes sure of, and what `render` leaves once its checks have passed. Assumes nothing.
 use mathlib.Core.Path.{_≡_, sym, _∙_}
 use mathlib.Core.Bool.{Bool, true}
-use mathlib.Core.List.{List, [], _∷_}
+use mathlib.Core.List.{[], _∷_}
 use Prim.Native.Nat.{ℕ}
-use lib.ListN.{length}
 use lib.Ieee.{Float}
 use Rattle.ranges.specs.Ranges.{sixteenIn}
 use Rattle.block.specs.Calls.{Call, run}

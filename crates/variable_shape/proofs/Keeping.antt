@@ -18,10 +18,10 @@ use Rattle.rooms.specs.declared.Room.the-variants.{Unused}
 use Rattle.ranges.specs.Ranges.{sixteenIn}
 use Rattle.block.specs.Limits.{Balanced}
 use Rattle.edges.specs.Sync.{transitionDuringReset, slaveAtReset, wrapOnce, cutEdge}
-use Rattle.block.proofs.Limits.{one-most}
+use Rattle.block.specs.Fit.{Inside}
+use Rattle.block.proofs.Plays.{one-most, Keeps}
 use Rattle.ranges.proofs.Bools.{of-each}
 use Rattle.rooms.proofs.RangeLaws.{under-phase, frequency-step, step-frequency, width-step, step-width}
-use Rattle.block.proofs.Plays.{Inside, Keeps}
 use Rattle.block.proofs.InsideAt.{inside-at}
 use Rattle.block.proofs.Accounts.{OneSample}
 use Rattle.edges.proofs.Crossings.{Crossable, Crossed, crossed-of}

@@ -1,7 +1,7 @@
 -- The laws that the variable shape hands to `block`, and which of its states are valid. Its phase is the master's with sync and the slave's without, whose wraps are the cycles.
 -- Assumes nothing.
 use mathlib.Core.Path.{_≡_, refl}
-use mathlib.Core.Bool.{Bool, true, false, cond}
+use mathlib.Core.Bool.{Bool, true, false}
 use mathlib.Core.List.{List}
 use lib.ListN.{getD}
 use lib.Ieee.{Float, lt, le, neg, ofBits}
@@ -11,7 +11,7 @@ use Rattle.ranges.specs.Ranges.{allOf}
 use Rattle.block.specs.Oscillator.{callOf}
 use Rattle.block.specs.Limits.{Balanced}
 use Rattle.block.specs.Account.{Phases32}
-use Rattle.block.proofs.Plays.{Inside}
+use Rattle.block.specs.Fit.{Inside}
 use Rattle.block.proofs.Accounts.{OneSample}
 use Rattle.block.proofs.Blocks.{Laws}
 use Rattle.block.proofs.Oscillators.{answered-valid}

@@ -79,7 +79,7 @@ returns-4 c =
     let e = k .before in
     let p = e .before in
     let t = p .before .before in
-    rendered _ _ _ _ _ _ (le-leb _ _ (t .before .if1 .left), (sym (t .state-in .ensures) ∙ not-false _ (p .before .if2 .left), (sym (p .parameters-in .ensures) ∙ not-false _ (e .if3 .left), tt)))
+    rendered _ _ _ (le-leb _ _ (t .before .if1 .left), (sym (t .state-in .ensures) ∙ not-false _ (p .before .if2 .left), (sym (p .parameters-in .ensures) ∙ not-false _ (e .if3 .left), tt)))
     _ _ _ _ _ (k .clip .ensures) (w .clamp-width .ensures) (n1 .new .ensures) (n2 .new2 .ensures) (n3 .new3 .ensures) (d .drift-or-play .ensures)
 
 pub render-spec : {M : Type 1} → statement M

@@ -1,0 +1,4 @@
+-- The demands of the request as statements, each for any oscillator.
+pub mod Demand1
+pub mod Demand2
+pub mod Demand3
