@@ -49,8 +49,13 @@ module _ {S A : Type 0} (o : Oscillator S A) (s : S) (a : A) where
 
 module _ {S A : Type 0} {o : Oscillator S A} {Valid : A → S → Type 0} {w e : ℕ} (l : Laws o Valid w e) where
   ways : (s : S) (a : A) (P : Call S → Type 0) → ((number index : ℕ) → eqb number 0 ≡ false → P (refusal number index s (o .buffer a)))
-      → (AllPass (o .checks s a) → firstOutside (o .rooms a) (stepsIn o s a) ≡ Nowhere → P (done (heardOf o s a))) → P (callOf o s a)
+      → (AllPass (checksOf o s a) → firstOutside (o .rooms a) (stepsIn o s a) ≡ Nowhere → P (done (heardOf o s a))) → P (callOf o s a)
   ways s a = by-ways o s a (l .numbered s a)
+
+  -- 0 is given only where every check passes and no step lies outside its room
+  pub answered-fit : (s : S) (a : A) → callOf o s a .number ≡ 0 → AllPass (checksOf o s a) × (firstOutside (o .rooms a) (stepsIn o s a) ≡ Nowhere)
+  answered-fit s a =
+      ways s a (λ (c : Call S). c .number ≡ 0 → AllPass (checksOf o s a) × (firstOutside (o .rooms a) (stepsIn o s a) ≡ Nowhere)) (λ number index h. not-done number h) (λ p h q. (p, h))
 
   -- an answered call is its samples, and its counts are theirs, added up
   pub answered-samples : (s : S) (a : A) → callOf o s a .number ≡ 0 → callOf o s a ≡ done (heardOf o s a)
@@ -60,8 +65,8 @@ module _ {S A : Type 0} {o : Oscillator S A} {Valid : A → S → Type 0} {w e :
   answered-counts s a q = ap (λ (c : Call S). c .counts) (answered-samples s a q) ∙ play-total (o .sample a) (stepsIn o s a) (o .buffer a) s noCounts
 
   module _ (s : S) (f : Phases32 o s) (a : A) where
-    coming : AllPass (o .checks s a) → firstOutside (o .rooms a) (stepsIn o s a) ≡ Nowhere → Coming l a (length (o .buffer a)) (o .moving s a) (o .buffer a) s
-    coming p h = record { long = refl; paired = l .paired s a; inside = h; valid = l .passed s a f p }
+    coming : AllPass (checksOf o s a) → firstOutside (o .rooms a) (stepsIn o s a) ≡ Nowhere → Coming l a (length (o .buffer a)) (o .moving s a) (o .buffer a) s
+    coming p h = record { long = refl; paired = l .paired s a; inside = h; valid = l .passed s a f (p .1) }
 
     pub answered-valid : callOf o s a .number ≡ 0 → Valid a (callOf o s a .state)
     answered-valid =

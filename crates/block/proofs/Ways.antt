@@ -77,10 +77,10 @@ module _ {S A : Type 0} (o : Oscillator S A) (s : S) (a : A) where
 
   -- what holds of each refusal, and of the samples where the call is answered, holds of the call
   pub by-ways : Numbered (o .checks s a) → (P : Call S → Type 0) → ((number index : ℕ) → eqb number 0 ≡ false → P (refusal number index s (o .buffer a)))
-      → (AllPass (o .checks s a) → firstOutside (o .rooms a) (stepsIn o s a) ≡ Nowhere → P (done (heardOf o s a))) → P (callOf o s a)
+      → (AllPass (checksOf o s a) → firstOutside (o .rooms a) (stepsIn o s a) ≡ Nowhere → P (done (heardOf o s a))) → P (callOf o s a)
   by-ways n P not-answered samples = go way
     where
       go : {c : Call S} → Way o s a c → P c
       go (refused {k} f) = not-answered (k .number) 0 (numbered-first (refl, n) f)
       go (drifted {i} p h) = not-answered 6 i refl
-      go (answered p h) = samples (p .1) h
+      go (answered p h) = samples p h

@@ -1,1 +1,1 @@
-// The demands of the request, for the five oscillators side by side: proofs/ states them and cites the oscillators' own theorems.
+// The demands of the request: specs/ states each for any oscillator, and proofs/ has them for the five.

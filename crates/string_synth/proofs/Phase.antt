@@ -8,7 +8,6 @@ use lib.Ieee.{Float, lt, le, neg, ofBits}
 use Rattle.floats.specs.F32.{zero32}
 use Rattle.floats.proofs.Ticks.{tick, cycle}
 use Rattle.ranges.specs.Ranges.{allOf}
-use Rattle.block.specs.declared.Counts.{Counts}
 use Rattle.block.specs.Oscillator.{callOf}
 use Rattle.block.specs.Limits.{NeitherFallsNorCuts}
 use Rattle.block.specs.Account.{Phases32}
@@ -42,21 +41,15 @@ laws = record {
   one = λ a. one-sample;
 }
 
--- a string's sample counts two of nothing
-pub record Limits (c : Counts) : Type 0 where
-  pub cycles : c .cycles ≤ 1
-  pub rises : c .rises ≤ 1
-  pub neither : NeitherFallsNorCuts c
-
 pub sample-neither : (s : State) (steps : List Float) (x : Float) → NeitherFallsNorCuts (sampleAt s steps x .counts)
 unfolding sampleOf finish
 sample-neither s steps x = record { falls = refl; cuts = refl }
 
-pub sample-limits : (s : State) (steps : List Float) (x : Float) → Valid s → Inside rooms steps → Limits (sampleAt s steps x .counts)
+-- a sample counts at most one cycle and one rise, and no fall and no cut
+pub sample-limits : (s : State) (steps : List Float) (x : Float) → Valid s → Inside rooms steps
+    → (let c = sampleAt s steps x .counts in (c .cycles ≤ 1) × (c .rises ≤ 1) × (c .falls ≡ 0) × (c .cuts ≡ 0))
 unfolding sampleOf finish
-sample-limits s steps x v i =
-    let l = reach-law s (sawsOf steps) (stepped-of s steps v i .ready) in
-    record { cycles = l .phase .once; rises = l .rises; neither = sample-neither s steps x }
+sample-limits s steps x v i = let l = reach-law s (sawsOf steps) (stepped-of s steps v i .ready) in (l .phase .once, l .rises, refl, refl)
 
 -- `new` and `init` are valid, and so is the state after an answered call
 pub new-valid : stateIn newState ≡ true
