@@ -15,18 +15,17 @@ use Rattle.rooms.proofs.Padding.{moved-length}
 use Rattle.block.specs.declared.Counts.{Counts}
 use Rattle.block.specs.Counting.{plus, total}
 use Rattle.block.specs.Play.{Sample, Heard, play}
-use Rattle.block.specs.Checks.{AllPass}
-use Rattle.block.specs.Oscillator.{Oscillator, sampleCounts, column}
+use Rattle.block.specs.Checks.{InOrder, AllPass}
+use Rattle.block.specs.Oscillator.{Oscillator, checksOf, sampleCounts, column}
 use Rattle.block.specs.Limits.{Limited, EachLimited, Few, Balanced, NeitherFallsNorCuts}
 use Rattle.block.specs.Account.{Phases32}
 use Rattle.block.specs.Fit.{Inside}
 use Rattle.block.proofs.Plays.{few-more, Keeps, nowhere-first}
 use Rattle.block.proofs.Accounts.{OneSample, steps-one, Told, stood, went, told-join}
-use Rattle.block.proofs.Ways.{Numbered}
 
 -- What an oscillator hands in. `Valid` is what the checks of a call make sure of and each of its samples keeps. A cycle is w units, and a sample's account may miss by e.
 pub record Laws {S A : Type 0} (o : Oscillator S A) (Valid : A → S → Type 0) (w e : ℕ) : Type 0 where
-  pub numbered : (s : S) (a : A) → Numbered (o .checks s a)
+  pub ordered : (s : S) (a : A) → InOrder 0 (checksOf o s a)
   pub paired : (s : S) (a : A) → length (o .moving s a) ≡ length (o .rooms a)
   pub passed : (s : S) (a : A) → Phases32 o s → AllPass (o .checks s a) → Valid a s
   pub fits : (s : S) (a : A) → Valid a s → Phases32 o s

@@ -50,7 +50,7 @@ module _ {S A : Type 0} (o : Oscillator S A) (s : S) (a : A) where
 module _ {S A : Type 0} {o : Oscillator S A} {Valid : A → S → Type 0} {w e : ℕ} (l : Laws o Valid w e) where
   ways : (s : S) (a : A) (P : Call S → Type 0) → ((number index : ℕ) → eqb number 0 ≡ false → P (refusal number index s (o .buffer a)))
       → (AllPass (checksOf o s a) → firstOutside (o .rooms a) (stepsIn o s a) ≡ Nowhere → P (done (heardOf o s a))) → P (callOf o s a)
-  ways s a = by-ways o s a (l .numbered s a)
+  ways s a = by-ways o s a (l .ordered s a)
 
   -- 0 is given only where every check passes and no step lies outside its room
   pub answered-fit : (s : S) (a : A) → callOf o s a .number ≡ 0 → AllPass (checksOf o s a) × (firstOutside (o .rooms a) (stepsIn o s a) ≡ Nowhere)

@@ -3,14 +3,16 @@ use mathlib.Core.Path.{_≡_, refl, sym, ap, _∙_, subst}
 use mathlib.Core.Bool.{Bool, true, false, true≢false}
 use mathlib.Core.Logic.{_⊎_, ⊎-elim, inl, inr}
 use mathlib.Core.List.{List, [], _∷_}
-use Prim.Native.Nat.{ℕ}
+use Prim.Native.Nat.{ℕ, _<_}
+use native.Mathlib.Omega.{arith}
+use borrow.Author.Tests.{ne-eqb}
 use lib.Dec.{eqb}
 use lib.Ieee.{Float}
 use Rattle.rooms.specs.declared.Found.{Found}
 use Rattle.rooms.specs.declared.Found.the-variants.{Outside, Nowhere}
 use Rattle.rooms.specs.Steps.{firstOutside}
 use Rattle.block.specs.Calls.{Call, refusal, done, run}
-use Rattle.block.specs.Checks.{Check, checked, AllPass, FirstFailing, here, later}
+use Rattle.block.specs.Checks.{Check, checked, InOrder, AllPass, FirstFailing, here, later}
 use Rattle.block.specs.Oscillator.{Oscillator, checksOf, callOf, stepsIn, heardOf, Way, refused, drifted, answered}
 use Rattle.block.proofs.Runs.{run-drift, run-done}
 
@@ -35,14 +37,13 @@ pass-or-fail (j ∷ ks) = go (j .passes) refl (pass-or-fail ks)
     go true h (inr f) = inr (f .0, later h (f .1))
     go false h r = inr (j, here h)
 
--- no check gives 0
-abbrev pub Numbered : List Check → Type 0
-Numbered [] = Unit {0}
-Numbered (k ∷ ks) = (eqb (k .number) 0 ≡ false) × Numbered ks
+-- checks in order do not give 0
+above : {n : ℕ} {ks : List Check} {k : Check} → InOrder n ks → FirstFailing ks k → n < k .number
+above o (here h) = o .0
+above o (later h f) = let l = above (o .1) f in omega (arith, o .0)
 
-numbered-first : {ks : List Check} {k : Check} → Numbered ks → FirstFailing ks k → eqb (k .number) 0 ≡ false
-numbered-first n (here h) = n .0
-numbered-first n (later h f) = numbered-first (n .1) f
+not-zero : {ks : List Check} {k : Check} → InOrder 0 ks → FirstFailing ks k → eqb (k .number) 0 ≡ false
+not-zero {k = k} o f = let l = above o f in ne-eqb (k .number) 0 (λ e. omega (arith, l, e))
 
 -- a number that is not 0
 pub not-done : {A : Type 0} (number : ℕ) → eqb number 0 ≡ false → number ≡ 0 → A
@@ -76,11 +77,11 @@ module _ {S A : Type 0} (o : Oscillator S A) (s : S) (a : A) where
       walked p Nowhere h = this (answered p h)
 
   -- what holds of each refusal, and of the samples where the call is answered, holds of the call
-  pub by-ways : Numbered (o .checks s a) → (P : Call S → Type 0) → ((number index : ℕ) → eqb number 0 ≡ false → P (refusal number index s (o .buffer a)))
+  pub by-ways : InOrder 0 (checksOf o s a) → (P : Call S → Type 0) → ((number index : ℕ) → eqb number 0 ≡ false → P (refusal number index s (o .buffer a)))
       → (AllPass (checksOf o s a) → firstOutside (o .rooms a) (stepsIn o s a) ≡ Nowhere → P (done (heardOf o s a))) → P (callOf o s a)
   by-ways n P not-answered samples = go way
     where
       go : {c : Call S} → Way o s a c → P c
-      go (refused {k} f) = not-answered (k .number) 0 (numbered-first (refl, n) f)
+      go (refused {k} f) = not-answered (k .number) 0 (not-zero n f)
       go (drifted {i} p h) = not-answered 6 i refl
       go (answered p h) = samples p h

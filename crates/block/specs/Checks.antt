@@ -2,7 +2,7 @@
 use mathlib.Core.Path.{_≡_}
 use mathlib.Core.Bool.{Bool, true, false, cond}
 use mathlib.Core.List.{List, [], _∷_}
-use Prim.Native.Nat.{ℕ}
+use Prim.Native.Nat.{ℕ, _<_}
 use lib.Dec.{leb}
 use lib.ListN.{length}
 use lib.Ieee.{Float}
@@ -25,6 +25,11 @@ lengthCheck xs = 1 unless leb (length xs) 4096
 unfoldable pub checked : {S : Type 0} → List Check → S → List Float → Call S → Call S
 checked [] s xs c = c
 checked (k ∷ ks) s xs c = cond (k .passes) (checked ks s xs c) (refusal (k .number) 0 s xs)
+
+-- "in this order": each number is above the one before it
+abbrev pub InOrder : ℕ → List Check → Type 0
+InOrder n [] = Unit {0}
+InOrder n (k ∷ ks) = (n < k .number) × InOrder (k .number) ks
 
 -- in the words of a promise: all pass, or this is the first that fails
 abbrev pub AllPass : List Check → Type 0

@@ -27,6 +27,7 @@ use Rattle.demands.specs.Demand1.{Demand1}
 
 pub demand1 : {S A : Type 0} {o : Oscillator S A} {Valid : A → S → Type 0} {w e : ℕ} → Laws o Valid w e → Demand1 o
 demand1 {o = o} l = record {
+  in-order = l .ordered;
   as-given = answered-or-as-given o;
   when = λ s a c. goes o s a;
   only-when = λ s a c e. subst (Way o s a) e (way o s a);

@@ -9,7 +9,7 @@ use Rattle.rooms.specs.declared.Found.the-variants.{Nowhere}
 use Rattle.rooms.specs.Steps.{firstOutside}
 use Rattle.block.specs.Counting.{noCounts}
 use Rattle.block.specs.Calls.{Call, refusal}
-use Rattle.block.specs.Checks.{AllPass}
+use Rattle.block.specs.Checks.{InOrder, AllPass}
 use Rattle.block.specs.Oscillator.{Oscillator, checksOf, callOf, stepsIn, Way}
 
 -- answered, or refused and nothing changed
@@ -17,6 +17,7 @@ abbrev pub AnsweredOrAsGiven : {S : Type 0} → S → List Float → Call S → 
 AnsweredOrAsGiven s xs c = (c .number ≡ 0) ⊎ (c ≡ refusal (c .number) (c .index) s xs)
 
 pub record Demand1 {S A : Type 0} (o : Oscillator S A) : Type 0 where
+  pub in-order : (s : S) (a : A) → InOrder 0 (checksOf o s a)
   pub as-given : (s : S) (a : A) → AnsweredOrAsGiven s (o .buffer a) (callOf o s a)
   -- 01, "given exactly when": where the condition of a way holds the call goes that way, and whichever way it goes, its condition holds
   pub when : (s : S) (a : A) (c : Call S) → Way o s a c → callOf o s a ≡ c

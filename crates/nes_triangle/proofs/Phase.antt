@@ -4,6 +4,7 @@ use mathlib.Core.Bool.{true}
 use mathlib.Core.List.{List}
 use Prim.Native.Nat.{ℕ, _^_, _≤_}
 use borrow.Author.Tests.{lt-ltb}
+use lib.Dec.{lit<}
 use lib.ListN.{getD}
 use lib.Pow.{pow-pos}
 use lib.Ieee.{Float, lt, le, ofBits}
@@ -44,7 +45,7 @@ passed-keeps bits s steps x v i = let k = keeps bits (v .bits-in) s steps x (v .
 -- a state that one call's bits accept may be refused by another's: what is valid goes by the arguments
 pub laws : Laws nesTriangle (λ a. Passed (a .bits)) cycle tick
 laws = record {
-  numbered = λ s a. (refl, (refl, tt));
+  ordered = λ s a. (lit< tt, (lit< tt, (lit< tt, tt)));
   paired = λ s a. refl;
   passed = λ s a f p. passed-of s (a .frequency) (a .bits) f (p .0) (p .1 .0);
   fits = λ s a v. (v .valid .phase .at .fit, tt);

@@ -1,4 +1,4 @@
--- A whole call of the NES triangle: nes_triangle_oscillator.rs, lines 34 to 141, with 01's refusals before it. Assumes nothing.
+-- The NES triangle as an oscillator of `block`: nes_triangle_oscillator.rs, lines 34 to 141, with 01's checks before it. Assumes nothing.
 use mathlib.Core.Bool.{Bool, false}
 use mathlib.Core.List.{List, [], _∷_}
 use Prim.Native.Nat.{ℕ, _^_}

@@ -3,6 +3,7 @@ use mathlib.Core.Path.{_≡_, refl}
 use mathlib.Core.Bool.{true}
 use mathlib.Core.List.{List}
 use Prim.Native.Nat.{_*_, _≤_}
+use lib.Dec.{lit<}
 use lib.ListN.{getD}
 use lib.Ieee.{Float, lt, le, neg, ofBits}
 use Rattle.floats.specs.F32.{zero32}
@@ -33,7 +34,7 @@ one-sample s steps x v i =
 
 pub laws : Laws stringSynth (λ a. Valid) (8 * cycle) (8 * tick)
 laws = record {
-  numbered = λ s a. (refl, (refl, (refl, (refl, tt))));
+  ordered = λ s a. (lit< tt, (lit< tt, (lit< tt, (lit< tt, (lit< tt, tt)))));
   paired = λ s a. refl;
   passed = λ s a f p. valid-of s f (p .1 .0);
   fits = λ s a v. (v .phase .at .fit, tt);

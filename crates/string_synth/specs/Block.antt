@@ -1,4 +1,4 @@
--- A whole call of the string synth: string_synth_oscillator.rs, lines 53 to 151, with 01's refusals before it. Assumes nothing.
+-- The string synth as an oscillator of `block`: string_synth_oscillator.rs, lines 53 to 151, with 01's checks before it. Assumes nothing.
 use mathlib.Core.Bool.{Bool, true, not, _&&_}
 use mathlib.Core.List.{List, [], _∷_}
 use Prim.Native.Nat.{ℕ}

@@ -2,6 +2,7 @@
 use mathlib.Core.Path.{_≡_, refl}
 use mathlib.Core.Bool.{true}
 use mathlib.Core.List.{List}
+use lib.Dec.{lit<}
 use lib.ListN.{getD}
 use lib.Ieee.{Float, lt, le, ofBits}
 use Rattle.floats.specs.F32.{zero32}
@@ -31,7 +32,7 @@ one-sample s steps x v i =
 
 pub laws : Laws superSquare (λ a. Valid) cycle tick
 laws = record {
-  numbered = λ s a. (refl, (refl, tt));
+  ordered = λ s a. (lit< tt, (lit< tt, (lit< tt, tt)));
   paired = λ s a. refl;
   passed = λ s a f p. valid-of s f (p .0);
   fits = λ s a v. (v .master .at .fit, (v .slave .at .fit, tt));

@@ -1,4 +1,4 @@
--- A whole call of the super square: super_square_oscillator.rs, lines 38 to 132, with 01's refusals before it. Assumes nothing.
+-- The super square as an oscillator of `block`: super_square_oscillator.rs, lines 38 to 132, with 01's checks before it. Assumes nothing.
 use mathlib.Core.Bool.{Bool, cond}
 use mathlib.Core.List.{List, [], _∷_}
 use lib.ListN.{length}

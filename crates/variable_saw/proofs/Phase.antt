@@ -3,6 +3,7 @@ use mathlib.Core.Path.{_≡_, refl}
 use mathlib.Core.Bool.{true}
 use mathlib.Core.List.{List}
 use Prim.Native.Nat.{_≤_}
+use lib.Dec.{lit<}
 use lib.ListN.{getD}
 use lib.Ieee.{Float, lt, le, neg, ofBits}
 use Rattle.floats.specs.F32.{zero32}
@@ -40,7 +41,7 @@ module _ (s : State) (steps : List Float) (x : Float) (v : Valid s) (i : Inside 
 
 pub laws : Laws variableSaw (λ a. Valid) cycle tick
 laws = record {
-  numbered = λ s a. (refl, (refl, tt));
+  ordered = λ s a. (lit< tt, (lit< tt, (lit< tt, tt)));
   paired = λ s a. refl;
   passed = λ s a f p. valid-of s f (p .0);
   fits = λ s a v. (v .phase .at .fit, tt);

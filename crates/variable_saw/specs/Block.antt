@@ -1,4 +1,4 @@
--- A whole call of the variable saw: variable_saw_oscillator.rs, lines 44 to 111, with 01's refusals before it. Assumes nothing.
+-- The variable saw as an oscillator of `block`: variable_saw_oscillator.rs, lines 44 to 111, with 01's checks before it. Assumes nothing.
 use mathlib.Core.Bool.{Bool, cond}
 use mathlib.Core.List.{List, [], _∷_}
 use lib.ListN.{length}

@@ -3,6 +3,7 @@
 use mathlib.Core.Path.{_≡_, refl}
 use mathlib.Core.Bool.{Bool, true, false}
 use mathlib.Core.List.{List}
+use lib.Dec.{lit<}
 use lib.ListN.{getD}
 use lib.Ieee.{Float, lt, le, neg, ofBits}
 use Rattle.floats.specs.F32.{zero32}
@@ -36,7 +37,7 @@ one-sample false phaseOutput s steps x v i = law-of false phaseOutput s steps x 
 
 pub laws : (sync : Bool) → Laws (variableShape sync) (λ a. Valid) cycle tick
 laws sync = record {
-  numbered = λ s a. (refl, (refl, tt));
+  ordered = λ s a. (lit< tt, (lit< tt, (lit< tt, tt)));
   paired = λ s a. paired (a .phase-output) (movingOf s a);
   passed = λ s a f p. valid-of s (p .0) f;
   fits = λ s a v. (v .master .at .fit, (v .slave .at .fit, tt));

@@ -1,4 +1,4 @@
--- A whole call of the variable shape: variable_shape_oscillator.rs, lines 57 to 211, with 01's refusals before it. Assumes nothing.
+-- The variable shape as an oscillator of `block`: variable_shape_oscillator.rs, lines 57 to 211, with 01's checks before it. Assumes nothing.
 use mathlib.Core.Bool.{Bool, cond}
 use mathlib.Core.List.{List, [], _∷_}
 use Prim.Native.Nat.{ℕ}
