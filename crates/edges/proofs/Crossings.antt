@@ -1,5 +1,5 @@
--- The loop around the two crossings, for any width and whatever a rise and a fall do to the samples: it leaves by its own break in its first or second
--- turn, with the phase below 1, after at most two rises and one fall. Assumes nothing.
+-- The loop around the two crossings, for any width from 0 to below 1 and whatever a rise and a fall do to the samples: it leaves by its own break in its
+-- first or second turn, with the phase below 1, after at most two rises and one fall. Assumes nothing.
 use mathlib.Core.Path.{_≡_, refl, sym, _∙_, ap, subst}
 use mathlib.Core.Bool.{Bool, true, false, not, _&&_, cond, true≢false}
 use mathlib.Core.Logic.{_⊎_, inl, inr, ⊎-elim}

@@ -1,5 +1,5 @@
--- The loop around the two crossings wraps the phase once where it has come to 1, and never below it: so its falls are the wraps. For any width and
--- whatever a rise and a fall do to the samples. Assumes nothing.
+-- The loop around the two crossings wraps the phase once where it has come to 1, and never below it: so its falls are the wraps. For any width
+-- from 0 to below 1 and whatever a rise and a fall do to the samples. Assumes nothing.
 use mathlib.Core.Path.{_≡_, refl, sym, _∙_, ap, subst}
 use mathlib.Core.Bool.{Bool, true, false}
 use Prim.Native.Nat.{ℕ, suc}

@@ -1,4 +1,4 @@
--- `variable_shape::sample::cross` meets its contract: the loop's laws are `block`'s. Assumes nothing.
+-- `variable_shape::sample::cross` meets its contract: the loop's laws are `edges`'. Assumes nothing.
 use mathlib.Core.Logic.{⊎-elim}
 use mathlib.Core.Path.{_∙_, sym, subst}
 use native.Mathlib.Omega.{arith}
