@@ -1,6 +1,5 @@
 -- The contracts of `set_master_phase` and `set_master_phase_in`, as the kit reads them, determine all: answer and state. Assumes nothing.
 use mathlib.Core.Path.{_≡_, refl, ap}
-use lib.Ieee.{Float}
 use base.Logic.{emp}
 use contract.Lifetimes.{Lfts}
 use denote.Triple.Entry.{Args, Res}

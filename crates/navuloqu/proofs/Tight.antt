@@ -1,7 +1,7 @@
 -- The contract of each exported function, as the kit reads it, determines all: words, result and samples. Assumes nothing.
 use mathlib.Core.Path.{refl, ap}
 use Rattle.floats.proofs.Contracts.{Determines, coincide}
-use Rattle.words.specs.Face.{Face}
+use Rattle.words.proofs.Faces.{same-face}
 use Rattle.variable_shape_face.specs.Words.{SetFace}
 use Rattle.navuloqu.proofs.variable_shape.navuloqu_variable_shape_init as variable_shape_init
 use Rattle.navuloqu.proofs.variable_shape.navuloqu_variable_shape_render as variable_shape_render
@@ -19,7 +19,7 @@ pub variable-shape-init-tight : Determines variable_shape_init.ended variable_sh
 variable-shape-init-tight κs a r q v w h k = (refl, rw (coincide h k))
 
 pub variable-shape-render-tight : Determines variable_shape_render.ended variable_shape_render.Reads.Learnt
-variable-shape-render-tight κs a r q v w h k = (refl, ap (λ (f : Face). (f .words, (tt, (tt, (tt, (tt, (tt, (tt, (tt, (f .samples, (f .result, tt))))))))))) (coincide h k))
+variable-shape-render-tight κs a r q v w h k = let o = same-face (coincide h k) in (refl, rw (o .0, o .1, o .2))
 
 pub variable-shape-set-master-phase-tight : Determines variable_shape_set_master_phase.ended variable_shape_set_master_phase.Reads.Learnt
 variable-shape-set-master-phase-tight κs a r q v w h k = let e = coincide h k in (ap (λ (f : SetFace). f .number) e, ap (λ (f : SetFace). (f .words, (tt, tt))) e)
@@ -28,22 +28,22 @@ pub variable-saw-init-tight : Determines variable_saw_init.ended variable_saw_in
 variable-saw-init-tight κs a r q v w h k = (refl, rw (coincide h k))
 
 pub variable-saw-render-tight : Determines variable_saw_render.ended variable_saw_render.Reads.Learnt
-variable-saw-render-tight κs a r q v w h k = (refl, ap (λ (f : Face). (f .words, (tt, (tt, (tt, (f .samples, (f .result, tt))))))) (coincide h k))
+variable-saw-render-tight κs a r q v w h k = let o = same-face (coincide h k) in (refl, rw (o .0, o .1, o .2))
 
 pub super-square-init-tight : Determines super_square_init.ended super_square_init.Reads.Learnt
 super-square-init-tight κs a r q v w h k = (refl, rw (coincide h k))
 
 pub super-square-render-tight : Determines super_square_render.ended super_square_render.Reads.Learnt
-super-square-render-tight κs a r q v w h k = (refl, ap (λ (f : Face). (f .words, (tt, (tt, (f .samples, (f .result, tt)))))) (coincide h k))
+super-square-render-tight κs a r q v w h k = let o = same-face (coincide h k) in (refl, rw (o .0, o .1, o .2))
 
 pub nes-triangle-init-tight : Determines nes_triangle_init.ended nes_triangle_init.Reads.Learnt
 nes-triangle-init-tight κs a r q v w h k = (refl, rw (coincide h k))
 
 pub nes-triangle-render-tight : Determines nes_triangle_render.ended nes_triangle_render.Reads.Learnt
-nes-triangle-render-tight κs a r q v w h k = (refl, ap (λ (f : Face). (f .words, (tt, (tt, (f .samples, (f .result, tt)))))) (coincide h k))
+nes-triangle-render-tight κs a r q v w h k = let o = same-face (coincide h k) in (refl, rw (o .0, o .1, o .2))
 
 pub string-synth-init-tight : Determines string_synth_init.ended string_synth_init.Reads.Learnt
 string-synth-init-tight κs a r q v w h k = (refl, rw (coincide h k))
 
 pub string-synth-render-tight : Determines string_synth_render.ended string_synth_render.Reads.Learnt
-string-synth-render-tight κs a r q v w h k = (refl, ap (λ (f : Face). (f .words, (tt, (tt, (tt, (f .samples, (f .result, tt))))))) (coincide h k))
+string-synth-render-tight κs a r q v w h k = let o = same-face (coincide h k) in (refl, rw (o .0, o .1, o .2))

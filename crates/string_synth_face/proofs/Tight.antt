@@ -1,7 +1,7 @@
 -- Every public function's contract, as the kit reads it, determines all: words, result and samples. Assumes nothing.
-use mathlib.Core.Path.{refl, ap}
+use mathlib.Core.Path.{refl}
 use Rattle.floats.proofs.Contracts.{Determines, coincide}
-use Rattle.words.specs.Face.{Face}
+use Rattle.words.proofs.Faces.{same-face}
 use Rattle.string_synth_face.proofs.init
 use Rattle.string_synth_face.proofs.render
 
@@ -9,4 +9,4 @@ pub init-tight : Determines init.ended init.Reads.Learnt
 init-tight κs a r q v w h k = (refl, rw (coincide h k))
 
 pub render-tight : Determines render.ended render.Reads.Learnt
-render-tight κs a r q v w h k = (refl, ap (λ (f : Face). (f .words, (tt, (tt, (tt, (f .samples, (f .result, tt))))))) (coincide h k))
+render-tight κs a r q v w h k = let o = same-face (coincide h k) in (refl, rw (o .0, o .1, o .2))

@@ -1,7 +1,7 @@
 -- Every public function's contract, as the kit reads it, determines all: words, result and samples. Assumes nothing.
 use mathlib.Core.Path.{refl, ap}
 use Rattle.floats.proofs.Contracts.{Determines, coincide}
-use Rattle.words.specs.Face.{Face}
+use Rattle.words.proofs.Faces.{same-face}
 use Rattle.variable_shape_face.specs.Words.{SetFace}
 use Rattle.variable_shape_face.proofs.init
 use Rattle.variable_shape_face.proofs.render
@@ -11,7 +11,7 @@ pub init-tight : Determines init.ended init.Reads.Learnt
 init-tight κs a r q v w h k = (refl, rw (coincide h k))
 
 pub render-tight : Determines render.ended render.Reads.Learnt
-render-tight κs a r q v w h k = (refl, ap (λ (f : Face). (f .words, (tt, (tt, (tt, (tt, (tt, (tt, (tt, (f .samples, (f .result, tt))))))))))) (coincide h k))
+render-tight κs a r q v w h k = let o = same-face (coincide h k) in (refl, rw (o .0, o .1, o .2))
 
 pub set-master-phase-tight : Determines set_master_phase.ended set_master_phase.Reads.Learnt
 set-master-phase-tight κs a r q v w h k = let e = coincide h k in (ap (λ (f : SetFace). f .number) e, ap (λ (f : SetFace). (f .words, (tt, tt))) e)

@@ -10,7 +10,7 @@ use Rattle.block.specs.Calls.{Call}
 use Rattle.block.specs.Checks.{Check, FirstFailing, here, later, _unless_}
 use Rattle.block.specs.Oscillator.{Oscillator, checksOf, callOf}
 use Rattle.block.proofs.Ways.{refused-by}
-use Rattle.words.specs.Face.{resultOf, faceOf, refusedFace}
+use Rattle.words.specs.Face.{Face, resultOf, faceOf, refusedFace}
 
 -- c is what the oscillator's call left, d what its definition says, from the state that was read
 pub face-is : {S : Type 0} (wordsOf : S → List ℕ) (given kept after result : List ℕ) (number : ℕ) (samples : List Float) (c d : Call S)
@@ -33,3 +33,7 @@ module _ {S A : Type 0} (o : Oscillator S A) (wordsOf : S → List ℕ) (w : Lis
       go : (short : Bool) → leb (length (o .buffer a)) 4096 ≡ short → faceOf wordsOf w (callOf o s a) ≡ refusedFace (cond short 3 1) w (o .buffer a)
       go true h = refused-face {k = 3 unless b} (later h (rw same (here bad))) refl
       go false h = refused-face (here h) refl
+
+-- what two calls leave, part by part
+pub same-face : {f g : Face} → f ≡ g → (f .words ≡ g .words) × (f .result ≡ g .result) × (f .samples ≡ g .samples)
+same-face e = (ap (λ (f : Face). f .words) e, ap (λ (f : Face). f .result) e, ap (λ (f : Face). f .samples) e)
