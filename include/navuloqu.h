@@ -17,8 +17,8 @@
  *   result[0]  the answer, one of the numbers below
  *   result[1]  with NAVULOQU_DRIFT the index of the first sample with a step outside its room, else 0
  *   result[2]  cycles    result[3]  rises    result[4]  falls    result[5]  cuts
- * Whatever the answer but 0, the state's words and all samples are as they were, and the counts are 0.
- * A NaN in the state after answer 0, which only next_sample can be, is the word 0x7fc00000, whatever word it was before.
+ * Whatever the answer but 0, the state's words and all samples are as they were, and the counts are 0; with answer 0 for an empty block
+ * too. A NaN in the state after an answered block that is not empty, which only next_sample can be, is the word 0x7fc00000.
  *
  * Pointers must be valid for what is said of them here, and must not overlap; a bool is 0 or 1; nothing else is asked of the caller:
  * every bit pattern of every float, whole number and state word is answered. */
@@ -34,7 +34,7 @@ extern "C" {
 #endif
 
 /* The answers. */
-#define NAVULOQU_DONE 0             /* rendered; also an empty block that passes, which changes nothing but a NaN's word */
+#define NAVULOQU_DONE 0             /* rendered; also an empty block that passes, which changes nothing */
 #define NAVULOQU_LONG_BLOCK 1       /* more than 4,096 samples */
 #define NAVULOQU_BAD_REGISTRATION 2 /* string synth only: the registration is not 7 long */
 #define NAVULOQU_BAD_STATE 3        /* the state lies outside its range, or a bool's word is neither 0 nor 1 */

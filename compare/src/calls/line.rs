@@ -43,14 +43,13 @@ pub fn answer_and_counts(outcome: &Outcome) -> String {
     )
 }
 
-/// Answer, index, counts, state words, checksum. Refused state words are printed as given.
+/// Answer, index, counts, state words, checksum. The state words of a refused call and of an empty
+/// block are printed as given.
 pub fn line(outcome: &Outcome, samples: &[f32]) -> String {
+    let stored = outcome.answer == 0 && !samples.is_empty();
     let mut line = answer_and_counts(outcome);
     for &word in &outcome.words {
-        let word = match outcome.answer {
-            0 => canonical(word),
-            _ => word,
-        };
+        let word = if stored { canonical(word) } else { word };
         line += &format!(" {word:08x}");
     }
     line + &format!(" {:08x}", checksum(samples))
@@ -59,6 +58,7 @@ pub fn line(outcome: &Outcome, samples: &[f32]) -> String {
 #[cfg(test)]
 mod tests {
     use super::*;
+    use crate::calls::{model::call, record::SAW};
 
     #[test]
     fn the_checksum_follows_its_rule() {
@@ -68,6 +68,18 @@ mod tests {
         assert_eq!(u64::from(checksum(&[0.25, 0.5])), two);
         let nan = f32::from_bits(0xff80_0001);
         assert_eq!(checksum(&[nan]), NAN);
+    }
+
+    #[test]
+    fn words_that_are_not_stored_are_printed_as_given() {
+        let told = |answer: usize, samples: &[f32]| {
+            let mut outcome = call(&Record::of_kind(SAW), &mut []).unwrap();
+            (outcome.answer, outcome.words) = (answer, vec![0xff80_0001]);
+            line(&outcome, samples)
+        };
+        assert_eq!(told(0, &[0.0]), "0 0 0 0 0 0 7fc00000 00000000");
+        assert_eq!(told(0, &[]), "0 0 0 0 0 0 ff800001 00000000");
+        assert_eq!(told(3, &[0.0]), "3 0 0 0 0 0 ff800001 00000000");
     }
 
     #[test]

@@ -1,7 +1,6 @@
 // The variable saw over lent arrays of 32-bit words, for the face.
 ghost use mathlib.Core.Path.{_≡_};
-ghost use mathlib.Core.Bool.{cond};
-ghost use lib.Dec.{eqb};
+ghost use Rattle.words.specs.Face.{wordsAfter};
 ghost use Rattle.variable_saw_face.specs.Words.{stateOf, wordsOf, initWords, renderFace};
 use variable_saw::State;
 
@@ -33,11 +32,11 @@ fn words_of(s: State) -> [u32; 7]
     ]
 }
 
-// Stores the words after an answered call only.
-fn store(words: &mut [u32; 7], number: u32, after: [u32; 7])
-    ensures { λ r. ⌜ now (words .exit) ≡ cond (eqb number 0) after (now (words .entry)) ⌝ }
+// Stores the words after an answered call of a block that is not empty.
+fn store(words: &mut [u32; 7], number: u32, samples: usize, after: [u32; 7])
+    ensures { λ r. ⌜ now (words .exit) ≡ wordsAfter number samples after (now (words .entry)) ⌝ }
 {
-    if number == 0 {
+    if (number == 0) & (samples > 0) {
         *words = after;
     }
 }
@@ -63,5 +62,5 @@ pub fn render(
     let counts = r.counts;
     let state = r.state;
     *result = words::result_of(answer, counts);
-    store(words, block::number(answer), words_of(state));
+    store(words, block::number(answer), out.len(), words_of(state));
 }

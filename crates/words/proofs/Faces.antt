@@ -10,15 +10,15 @@ use Rattle.block.specs.Calls.{Call}
 use Rattle.block.specs.Checks.{Check, FirstFailing, here, later, _unless_}
 use Rattle.block.specs.Oscillator.{Oscillator, checksOf, callOf}
 use Rattle.block.proofs.Ways.{refused-by}
-use Rattle.words.specs.Face.{Face, resultOf, faceOf, refusedFace}
+use Rattle.words.specs.Face.{Face, resultOf, wordsAfter, faceOf, refusedFace}
 
 -- c is what the oscillator's call left, d what its definition says, from the state that was read
-pub face-is : {S : Type 0} (wordsOf : S → List ℕ) (given kept after result : List ℕ) (number : ℕ) (samples : List Float) (c d : Call S)
-    → c ≡ d → number ≡ c .number → after ≡ wordsOf (c .state) → kept ≡ cond (eqb number 0) after given → result ≡ resultOf c → samples ≡ c .samples
+pub face-is : {S : Type 0} (wordsOf : S → List ℕ) (given kept after result : List ℕ) (number n : ℕ) (samples : List Float) (c d : Call S)
+    → c ≡ d → number ≡ c .number → after ≡ wordsOf (c .state) → n ≡ length samples → kept ≡ wordsAfter number n after given → result ≡ resultOf c → samples ≡ c .samples
     → record { words = kept; result = result; samples = samples } ≡ faceOf wordsOf given d
 unfolding faceOf
-face-is wordsOf given kept after result number samples c d e at-number at-after at-kept at-result at-samples =
-    rw (at-kept, at-number, at-after, at-result, at-samples) (ap (faceOf wordsOf given) e)
+face-is wordsOf given kept after result number n samples c d e at-number at-after at-length at-kept at-result at-samples =
+    rw (at-kept, at-number, at-length, at-after, at-result, at-samples) (ap (faceOf wordsOf given) e)
 
 -- a refused call: the words and the samples stay
 module _ {S A : Type 0} (o : Oscillator S A) (wordsOf : S → List ℕ) (w : List ℕ) (s : S) (a : A) where

@@ -1,9 +1,10 @@
 -- What a call from another language leaves, for any oscillator: the state's words, the six words of the result, and the samples. Assumes nothing.
-use mathlib.Core.Bool.{cond}
+use mathlib.Core.Bool.{cond, _&&_}
 use mathlib.Core.List.{List, [], _∷_}
 use Prim.Native.Nat.{ℕ, _-_}
 use lib.Dec.{eqb, ltb}
 use lib.IntN.{ℤ, pos, negsuc}
+use lib.ListN.{length}
 use lib.Ieee.{Float, binary32, neg, toBits}
 use Rattle.floats.specs.F32.{f32, one32}
 use Rattle.block.specs.declared.Answer.{Answer}
@@ -24,10 +25,13 @@ resultOf c = c .number ∷ c .index ∷ c .counts .cycles ∷ c .counts .rises �
 abbrev pub resultWords : Answer → Counts → List ℕ
 resultWords answer counts = numberOf answer ∷ indexOf answer ∷ counts .cycles ∷ counts .rises ∷ counts .falls ∷ counts .cuts ∷ []
 
--- The given words are kept unless the answer is 0. An answered call stores the state's words, an empty block's too: a NaN among them is then
--- 7fc00000, whatever pattern it came with.
+-- The state's words after a call that answered with this number over so many samples. The given ones stay, bit by bit, after a refusal and after an
+-- empty block, 01: "nothing changed". Only an answered block that is not empty stores; a NaN among what it stores is 7fc00000.
+abbrev pub wordsAfter : ℕ → ℕ → List ℕ → List ℕ → List ℕ
+wordsAfter number samples stored given = cond (eqb number 0 && ltb 0 samples) stored given
+
 unfoldable pub faceOf : {S : Type 0} → (S → List ℕ) → List ℕ → Call S → Face
-faceOf wordsOf given c = record { words = cond (eqb (c .number) 0) (wordsOf (c .state)) given; result = resultOf c; samples = c .samples }
+faceOf wordsOf given c = record { words = wordsAfter (c .number) (length (c .samples)) (wordsOf (c .state)) given; result = resultOf c; samples = c .samples }
 
 -- a refusal with this number: the words and the samples as they were, and nothing counted
 abbrev pub refusedFace : ℕ → List ℕ → List Float → Face

@@ -36,9 +36,9 @@ returns c =
     let r = q .before .before .before .before .before in
     let s = r .before .before in
     let a = s .before .before .before .before .args in
-    face-is _ _ _ _ _ _ _ (left (r .render .result) (r .render .last .1 .1 .1 .1 .0)) _
+    face-is _ _ _ _ _ _ _ _ (left (r .render .result) (r .render .last .1 .1 .1 .1 .0)) _
     (r .render .ensures ∙ ap (λ (t : State). renderOf t (a .frequency) (a .registration .now) (a .gain) (a .out .now)) (s .state-of .ensures))
-    (n .number .ensures) (w .words-of .ensures) (c .store .ensures) (q .result-of .ensures) refl
+    (n .number .ensures) (w .words-of .ensures) refl (c .store .ensures) (q .result-of .ensures) refl
 
 pub render-spec : {M : Type 1} → statement M
 render-spec =

@@ -1,13 +1,13 @@
 -- `variable_shape_face::store` meets its contract. Assumes nothing.
-use borrow.Author.Tests.{eq-eqb, ne-eqb}
+use Rattle.floats.proofs.Choices.{chosen, other}
 use Rattle.variable_shape_face.proofs.store.Statement.{statement}
 use Rattle.variable_shape_face.proofs.store.Tie as tie
 
 returns : tie.Need-returns
-returns c = rw (eq-eqb _ 0 (c .if1 .taken))
+returns c = chosen _ _ _ (c .if1 .taken)
 
 returns-2 : tie.Need-returns-2
-returns-2 c = rw (ne-eqb _ 0 (c .if1 .left))
+returns-2 c = other _ _ _ (c .if1 .left)
 
 pub store-spec : {M : Type 1} → statement M
 store-spec = tie.close (tie.spec returns returns-2)
