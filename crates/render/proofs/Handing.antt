@@ -9,11 +9,11 @@ use borrow.Author.Tests.{le-leb, lt-leb, eq-eqb, ne-eqb, leb-true}
 use lib.Dec.{leb, eqb}
 use lib.ListN.{length, drop, length-append}
 use Rattle.ranges.proofs.Bools.{and-both}
-use Rattle.render.specs.declared.bank.Outcome.{Outcome}
+use Rattle.bank.specs.declared.Outcome.{Outcome}
 use Rattle.render.specs.declared.Written.{Written}
 use Rattle.render.specs.declared.Written.the-variants.{Text, NoRoom}
 use Rattle.render.specs.Line.{numberThen, lineOf}
-use Rattle.render.specs.Bank.{initBank}
+use Rattle.bank.specs.Bank.{initBank}
 use Rattle.render.specs.Lists.{recordsFrom, runOf, numbered, linesOf, textOf, Handed, written, countOf, left}
 use Rattle.render.specs.Private.{laid, Wrote}
 use Rattle.render.proofs.Digits.{decimal-long}

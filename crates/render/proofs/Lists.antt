@@ -9,12 +9,12 @@ use borrow.Author.Tests.{ne-eqb}
 use lib.Dec.{eqb, ltb}
 use lib.ListN.{length, take}
 use Rattle.block.specs.Counting.{oneIf}
-use Rattle.render.specs.declared.bank.Bank.{Bank}
-use Rattle.render.specs.declared.bank.Outcome.{Outcome}
+use Rattle.bank.specs.declared.Bank.{Bank}
+use Rattle.bank.specs.declared.Outcome.{Outcome}
 use Rattle.render.specs.Line.{spelled, decimalOf, numberThen, lineOf}
-use Rattle.render.specs.Bank.{initBank, recordPlayed}
+use Rattle.bank.specs.Bank.{initBank, recordPlayed}
 use Rattle.render.specs.Lists.{recordsFrom, runOf, numbered, linesOf}
-use Rattle.render.proofs.Refused.{record-kept}
+use Rattle.bank.proofs.Refused.{record-kept}
 
 -- what the first k lines say is what they say for the first k records alone
 pub up-to : (b : Bank) (k : ℕ) (records : List (List ℕ)) → take k (runOf b records) ≡ runOf b (take k records)

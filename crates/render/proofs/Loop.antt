@@ -6,10 +6,10 @@ use native.Mathlib.Numerals.{add-one}
 use native.Mathlib.Omega.{arith}
 use lib.ListN.{take}
 use Rattle.jobs.specs.Words.{recordOf}
-use Rattle.render.specs.declared.bank.Bank.{Bank}
-use Rattle.render.specs.declared.bank.Played.{Played}
+use Rattle.bank.specs.declared.Bank.{Bank}
+use Rattle.bank.specs.declared.Played.{Played}
 use Rattle.render.specs.Line.{lineOf}
-use Rattle.render.specs.Bank.{initBank, recordPlayed}
+use Rattle.bank.specs.Bank.{initBank, recordPlayed}
 use Rattle.render.specs.Lists.{recordsFrom, runOf, numbered, linesOf}
 use Rattle.render.specs.Private.{laid, Wrote}
 use Rattle.render.proofs.Laying.{joins, take-laid}

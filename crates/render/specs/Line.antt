@@ -3,7 +3,7 @@ use mathlib.Core.Bool.{cond}
 use mathlib.Core.List.{List, [], _∷_, _++_}
 use Prim.Native.Nat.{ℕ, zero, suc, _+_, _/_, _%_}
 use lib.Dec.{ltb}
-use Rattle.render.specs.declared.bank.Outcome.{Outcome}
+use Rattle.bank.specs.declared.Outcome.{Outcome}
 
 -- the last f digits of n, the most significant first, and no zero before them; in ASCII the digit 0 is 48
 unfoldable pub spelled : ℕ → ℕ → List ℕ

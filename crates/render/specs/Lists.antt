@@ -5,12 +5,12 @@ use Prim.Native.Nat.{ℕ, zero, suc, _/_, _%_}
 use lib.Dec.{leb, eqb}
 use lib.ListN.{length, drop}
 use Rattle.jobs.specs.Words.{recordOf}
-use Rattle.render.specs.declared.bank.Bank.{Bank}
-use Rattle.render.specs.declared.bank.Outcome.{Outcome}
+use Rattle.bank.specs.declared.Bank.{Bank}
+use Rattle.bank.specs.declared.Outcome.{Outcome}
 use Rattle.render.specs.declared.Written.{Written}
 use Rattle.render.specs.declared.Written.the-variants.{Text, NoRoom}
 use Rattle.render.specs.Line.{lineOf}
-use Rattle.render.specs.Bank.{initBank, recordPlayed}
+use Rattle.bank.specs.Bank.{initBank, recordPlayed}
 
 -- n records of a list, from record k on
 unfoldable pub recordsFrom : List ℕ → ℕ → ℕ → List (List ℕ)

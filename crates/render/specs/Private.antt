@@ -1,9 +1,7 @@
 -- What the crate's own functions ask of each other. No public contract cites it, and a reader need not believe it. Assumes nothing.
 use mathlib.Core.Path.{_≡_}
-use mathlib.Core.Bool.{cond}
 use mathlib.Core.List.{List, _++_}
 use Prim.Native.Nat.{ℕ, _+_, _≤_}
-use lib.Dec.{leb}
 use lib.ListN.{length, take, drop}
 
 -- the buffer d with a text from `at` on
@@ -16,7 +14,3 @@ pub record Wrote (d : List ℕ) (at : ℕ) (text : List ℕ) (r : ℕ) (d' : Lis
   pub room : r ≤ length d
   pub long : length d' ≡ length d
   pub same : d' ≡ laid d at text
-
--- one sample more than a call answers stands for every longer block
-abbrev pub lentOf : ℕ → ℕ
-lentOf n = cond (leb n 4097) n 4097

@@ -5,7 +5,6 @@ ghost use lib.ListN.{length};
 ghost use Rattle.render.specs.Lists.{recordsFrom, linesOf, textOf, written, left};
 ghost use Rattle.render.specs.Private.{Wrote};
 
-mod bank;
 mod text;
 
 // No text is longer: 1,024 lines of seven numbers, each of ten digits and one byte more.

@@ -3,7 +3,7 @@ ghost use Prim.Native.Nat.{_+_, _≤_};
 ghost use lib.ListN.{length};
 ghost use Rattle.render.specs.Line.{numberThen, lineOf};
 ghost use Rattle.render.specs.Private.{Wrote};
-use crate::bank::Outcome;
+use bank::Outcome;
 
 pub(crate) fn append(out: &mut [u8], at: usize, text: &[u8]) -> usize
     requires { ⌜ at + length (now text) ≤ length (now out) ⌝ }

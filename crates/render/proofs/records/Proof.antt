@@ -1,5 +1,5 @@
 -- `render::records` meets its contract. The loop's invariant: the lines of the first `k` records are written. Assumes nothing.
-use Rattle.render.specs.Bank.{recordPlayed}
+use Rattle.bank.specs.Bank.{recordPlayed}
 use mathlib.Core.Path.{_∙_, ap}
 use Prim.Native.Nat.{_-_}
 use Rattle.render.proofs.Loop.{Running, running-start, running-more, running-end}

@@ -1,0 +1,11 @@
+-- Every public function's contract, as the kit reads it, determines its outcome. Assumes nothing.
+use mathlib.Core.Path.{refl}
+use Rattle.floats.proofs.Contracts.{Determines, coincide}
+use Rattle.bank.proofs.start
+use Rattle.bank.proofs.play
+
+pub start-tight : Determines start.ended start.Reads.Learnt
+start-tight κs a r q v w h k = (coincide h k, refl)
+
+pub play-tight : Determines play.ended play.Reads.Learnt
+play-tight κs a r q v w h k = (coincide h k, refl)

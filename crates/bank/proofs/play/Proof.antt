@@ -1,0 +1,44 @@
+-- `bank::play` meets its contract: a malformed record changes nothing, and any other is a call. Assumes nothing.
+use Rattle.bank.specs.Bank.{recordPlayed}
+use borrow.Author.Needs.{needs}
+use Rattle.bank.proofs.play.Statement.{statement}
+use Rattle.bank.proofs.play.Tie as tie
+
+read-requires : tie.Need-read-requires
+read-requires c κs = search needs
+
+enum-told : tie.Need-enum-told
+enum-told c = search needs
+
+none-requires : tie.Need-none-requires
+none-requires c κs = search needs
+
+told-requires : tie.Need-told-requires
+told-requires c κs = search needs
+
+enum-known-asked : tie.Need-enum-known-asked
+enum-known-asked c = search needs
+
+on-silence-requires : tie.Need-on-silence-requires
+on-silence-requires c κs = search needs
+
+returns : tie.Need-returns
+unfolding recordPlayed
+returns c = let t = c .before .before in rw (← t .before .before .read .ensures, t .enum-told .given .1, c .told .ensures, c .before .none .ensures)
+
+returns-2 : tie.Need-returns-2
+unfolding recordPlayed
+returns-2 c = let a = c .before .before .before in rw (← a .before .before .read .ensures, a .asked .given .1) (c .on-silence .ensures)
+
+pub play-spec : {M : Type 1} → statement M
+play-spec =
+    tie.close
+    (tie.spec
+    read-requires
+    enum-told
+    none-requires
+    told-requires
+    enum-known-asked
+    on-silence-requires
+    returns
+    returns-2)

@@ -1,0 +1,105 @@
+-- What one record makes of the five states, and what its line says. Assumes nothing.
+use mathlib.Core.List.{List}
+use Prim.Native.Nat.{ℕ}
+use lib.ListN.{replicate}
+use lib.Ieee.{Float}
+use Rattle.floats.specs.F32.{zero32}
+use Rattle.block.specs.declared.Answer.{Answer}
+use Rattle.block.specs.declared.Answer.the-variants.{BadRecord}
+use Rattle.block.specs.declared.Counts.{Counts}
+use Rattle.block.specs.Answers.{numberOf, indexOf}
+use Rattle.block.specs.Counting.{noCounts}
+use Rattle.block.specs.Calls.{Call}
+use Rattle.jobs.specs.Record.{jobOf}
+use Rattle.jobs.specs.declared.Settings.{Settings}
+use Rattle.jobs.specs.declared.Settings.the-variants.{VariableShape, VariableSaw, SuperSquare, NesTriangle, StringSynth}
+use Rattle.jobs.specs.declared.Asked.{Asked}
+use Rattle.jobs.specs.declared.Asked.the-variants.{BadRecord as Malformed, Play}
+use Rattle.states.specs.VariableShape as ShapeStart
+use Rattle.variable_shape.specs.Block as Shape
+use Rattle.states.specs.VariableSaw as SawStart
+use Rattle.variable_saw.specs.Block as Saw
+use Rattle.states.specs.SuperSquare as SquareStart
+use Rattle.super_square.specs.Block as Square
+use Rattle.states.specs.NesTriangle as NesStart
+use Rattle.nes_triangle.specs.Block as Nes
+use Rattle.states.specs.StringSynth as StringStart
+use Rattle.string_synth.specs.Block as Strings
+use Rattle.states.specs.declared.variable_shape.State.{State as ShapeState}
+use Rattle.states.specs.declared.variable_saw.State.{State as SawState}
+use Rattle.states.specs.declared.super_square.State.{State as SquareState}
+use Rattle.states.specs.declared.nes_triangle.State.{State as NesState}
+use Rattle.states.specs.declared.string_synth.State.{State as StringState}
+use Rattle.bank.specs.declared.Bank.{Bank}
+use Rattle.bank.specs.declared.Outcome.{Outcome}
+use Rattle.bank.specs.declared.Played.{Played}
+
+-- "Each kind starts from `init`"
+abbrev pub initBank : Bank
+initBank = record { shape = ShapeStart.initState; saw = SawStart.initState; «super_square» = SquareStart.initState; nes = NesStart.initState; string = StringStart.initState }
+
+-- what a line says of an answer and counts
+abbrev pub toldOf : Answer → Counts → Outcome
+toldOf answer counts = record { answer = numberOf answer; drift = indexOf answer; counts = counts }
+
+-- and of a call
+abbrev pub outcomeOf : {S : Type 0} → Call S → Outcome
+outcomeOf c = record { answer = c .number; drift = c .index; counts = c .counts }
+
+-- a bank with one of its states replaced
+abbrev pub withShape : Bank → ShapeState → Bank
+withShape b s = record { shape = s; saw = b .saw; «super_square» = b .«super_square»; nes = b .nes; string = b .string }
+
+abbrev pub withSaw : Bank → SawState → Bank
+withSaw b s = record { shape = b .shape; saw = s; «super_square» = b .«super_square»; nes = b .nes; string = b .string }
+
+abbrev pub withSuperSquare : Bank → SquareState → Bank
+withSuperSquare b s = record { shape = b .shape; saw = b .saw; «super_square» = s; nes = b .nes; string = b .string }
+
+abbrev pub withNes : Bank → NesState → Bank
+withNes b s = record { shape = b .shape; saw = b .saw; «super_square» = b .«super_square»; nes = s; string = b .string }
+
+abbrev pub withString : Bank → StringState → Bank
+withString b s = record { shape = b .shape; saw = b .saw; «super_square» = b .«super_square»; nes = b .nes; string = s }
+
+-- a call of each kind: that kind's state is what the call left, the others are as they were
+abbrev pub shapePlayed : Bank → Call ShapeState → Played
+shapePlayed b c = record { bank = withShape b (c .state); outcome = outcomeOf c }
+
+abbrev pub sawPlayed : Bank → Call SawState → Played
+sawPlayed b c = record { bank = withSaw b (c .state); outcome = outcomeOf c }
+
+abbrev pub superSquarePlayed : Bank → Call SquareState → Played
+superSquarePlayed b c = record { bank = withSuperSquare b (c .state); outcome = outcomeOf c }
+
+abbrev pub nesPlayed : Bank → Call NesState → Played
+nesPlayed b c = record { bank = withNes b (c .state); outcome = outcomeOf c }
+
+abbrev pub stringPlayed : Bank → Call StringState → Played
+stringPlayed b c = record { bank = withString b (c .state); outcome = outcomeOf c }
+
+-- the call that the settings ask for, with the registration that stands beside them, on a buffer
+abbrev pub settingsPlayed : Bank → Settings → List Float → List Float → Played
+settingsPlayed b (VariableShape frequency masterFrequency pw waveshape phaseModulation sync phaseOutput) registration xs =
+    shapePlayed b (Shape.renderOf (b .shape) masterFrequency frequency pw waveshape phaseModulation sync phaseOutput xs)
+settingsPlayed b (VariableSaw frequency pw waveshape) registration xs = sawPlayed b (Saw.renderOf (b .saw) frequency pw waveshape xs)
+settingsPlayed b (SuperSquare frequency shape) registration xs = superSquarePlayed b (Square.renderOf (b .«super_square») frequency shape xs)
+settingsPlayed b (NesTriangle frequency bits) registration xs = nesPlayed b (Nes.renderOf (b .nes) frequency bits xs)
+settingsPlayed b (StringSynth frequency gain) registration xs = stringPlayed b (Strings.renderOf (b .string) frequency registration gain xs)
+
+-- "the string's buffer is zeroed for each record"; the other kinds overwrite what they find
+abbrev pub silence : ℕ → List Float
+silence n = replicate n zero32
+
+-- a refused record changes nothing
+abbrev pub refusedRecord : Bank → Played
+refusedRecord b = record { bank = b; outcome = toldOf BadRecord noCounts }
+
+-- what a record asks for: 7 where it is malformed, else the call
+abbrev pub askedPlayed : Bank → Asked → List Float → List Float → Played
+askedPlayed b Malformed registration xs = refusedRecord b
+askedPlayed b (Play settings) registration xs = settingsPlayed b settings registration xs
+
+-- "then 7 for each record, then makes the call", on as many zeros as the record says
+unfoldable pub recordPlayed : Bank → List ℕ → Played
+recordPlayed b p = let job = jobOf p in askedPlayed b (job .asked) (job .registration) (silence (job .«block_length»))
