@@ -1,4 +1,6 @@
 -- The laws of records.
 pub mod LongBlocks
 pub mod Refused
+pub mod Lending
+pub mod Room
 pub mod Tight

@@ -1,6 +1,8 @@
--- What one record makes of the five states, and what its line says. Assumes nothing.
-use mathlib.Core.List.{List}
+-- What one record makes: of the five states, what its line says, and its samples. Assumes nothing.
+use mathlib.Core.Bool.{cond}
+use mathlib.Core.List.{List, []}
 use Prim.Native.Nat.{ℕ}
+use lib.Dec.{eqb}
 use lib.ListN.{replicate}
 use lib.Ieee.{Float}
 use Rattle.floats.specs.F32.{zero32}
@@ -32,11 +34,16 @@ use Rattle.states.specs.declared.nes_triangle.State.{State as NesState}
 use Rattle.states.specs.declared.string_synth.State.{State as StringState}
 use Rattle.bank.specs.declared.Bank.{Bank}
 use Rattle.bank.specs.declared.Outcome.{Outcome}
-use Rattle.bank.specs.declared.Played.{Played}
 
 -- "Each kind starts from `init`"
 abbrev pub initBank : Bank
 initBank = record { shape = ShapeStart.initState; saw = SawStart.initState; «super_square» = SquareStart.initState; nes = NesStart.initState; string = StringStart.initState }
+
+-- what a record makes: the states after it, what its line says, and its samples
+pub record Made : Type 0 where
+  pub bank : Bank
+  pub outcome : Outcome
+  pub samples : List Float
 
 -- what a line says of an answer and counts
 abbrev pub toldOf : Answer → Counts → Outcome
@@ -45,6 +52,10 @@ toldOf answer counts = record { answer = numberOf answer; drift = indexOf answer
 -- and of a call
 abbrev pub outcomeOf : {S : Type 0} → Call S → Outcome
 outcomeOf c = record { answer = c .number; drift = c .index; counts = c .counts }
+
+-- the samples of a call: what an answered one left in its buffer; a refused one has none
+abbrev pub heard : {S : Type 0} → Call S → List Float
+heard c = cond (eqb (c .number) 0) (c .samples) []
 
 -- a bank with one of its states replaced
 abbrev pub withShape : Bank → ShapeState → Bank
@@ -63,23 +74,23 @@ abbrev pub withString : Bank → StringState → Bank
 withString b s = record { shape = b .shape; saw = b .saw; «super_square» = b .«super_square»; nes = b .nes; string = s }
 
 -- a call of each kind: that kind's state is what the call left, the others are as they were
-abbrev pub shapePlayed : Bank → Call ShapeState → Played
-shapePlayed b c = record { bank = withShape b (c .state); outcome = outcomeOf c }
+abbrev pub shapePlayed : Bank → Call ShapeState → Made
+shapePlayed b c = record { bank = withShape b (c .state); outcome = outcomeOf c; samples = heard c }
 
-abbrev pub sawPlayed : Bank → Call SawState → Played
-sawPlayed b c = record { bank = withSaw b (c .state); outcome = outcomeOf c }
+abbrev pub sawPlayed : Bank → Call SawState → Made
+sawPlayed b c = record { bank = withSaw b (c .state); outcome = outcomeOf c; samples = heard c }
 
-abbrev pub superSquarePlayed : Bank → Call SquareState → Played
-superSquarePlayed b c = record { bank = withSuperSquare b (c .state); outcome = outcomeOf c }
+abbrev pub superSquarePlayed : Bank → Call SquareState → Made
+superSquarePlayed b c = record { bank = withSuperSquare b (c .state); outcome = outcomeOf c; samples = heard c }
 
-abbrev pub nesPlayed : Bank → Call NesState → Played
-nesPlayed b c = record { bank = withNes b (c .state); outcome = outcomeOf c }
+abbrev pub nesPlayed : Bank → Call NesState → Made
+nesPlayed b c = record { bank = withNes b (c .state); outcome = outcomeOf c; samples = heard c }
 
-abbrev pub stringPlayed : Bank → Call StringState → Played
-stringPlayed b c = record { bank = withString b (c .state); outcome = outcomeOf c }
+abbrev pub stringPlayed : Bank → Call StringState → Made
+stringPlayed b c = record { bank = withString b (c .state); outcome = outcomeOf c; samples = heard c }
 
 -- the call that the settings ask for, with the registration that stands beside them, on a buffer
-abbrev pub settingsPlayed : Bank → Settings → List Float → List Float → Played
+abbrev pub settingsPlayed : Bank → Settings → List Float → List Float → Made
 settingsPlayed b (VariableShape frequency masterFrequency pw waveshape phaseModulation sync phaseOutput) registration xs =
     shapePlayed b (Shape.renderOf (b .shape) masterFrequency frequency pw waveshape phaseModulation sync phaseOutput xs)
 settingsPlayed b (VariableSaw frequency pw waveshape) registration xs = sawPlayed b (Saw.renderOf (b .saw) frequency pw waveshape xs)
@@ -91,15 +102,15 @@ settingsPlayed b (StringSynth frequency gain) registration xs = stringPlayed b (
 abbrev pub silence : ℕ → List Float
 silence n = replicate n zero32
 
--- a refused record changes nothing
-abbrev pub refusedRecord : Bank → Played
-refusedRecord b = record { bank = b; outcome = toldOf BadRecord noCounts }
+-- "A refused record changes nothing"
+abbrev pub refusedRecord : Bank → Made
+refusedRecord b = record { bank = b; outcome = toldOf BadRecord noCounts; samples = [] }
 
 -- what a record asks for: 7 where it is malformed, else the call
-abbrev pub askedPlayed : Bank → Asked → List Float → List Float → Played
+abbrev pub askedPlayed : Bank → Asked → List Float → List Float → Made
 askedPlayed b Malformed registration xs = refusedRecord b
 askedPlayed b (Play settings) registration xs = settingsPlayed b settings registration xs
 
 -- "then 7 for each record, then makes the call", on as many zeros as the record says
-unfoldable pub recordPlayed : Bank → List ℕ → Played
+unfoldable pub recordPlayed : Bank → List ℕ → Made
 recordPlayed b p = let job = jobOf p in askedPlayed b (job .asked) (job .registration) (silence (job .«block_length»))

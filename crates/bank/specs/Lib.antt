@@ -1,3 +1,4 @@
--- What a record makes of the five states.
+-- What a record makes of the five states, and its samples in a lent buffer.
 pub mod Bank
+pub mod Lent
 pub mod Private

@@ -6,6 +6,7 @@ ghost use Rattle.super_square.specs.Block.{renderOf as superSquareCall};
 ghost use Rattle.nes_triangle.specs.Block.{renderOf as nesCall};
 ghost use Rattle.string_synth.specs.Block.{renderOf as stringCall};
 ghost use Rattle.bank.specs.Bank.{toldOf, shapePlayed, sawPlayed, superSquarePlayed, nesPlayed, stringPlayed, settingsPlayed};
+ghost use Rattle.bank.specs.Private.{madeOf};
 use crate::Bank;
 use crate::Outcome;
 use crate::Played;
@@ -19,7 +20,7 @@ pub(crate) fn by_kind(
     registration: [f32; 7],
     out: &mut [f32],
 ) -> Played
-    ensures { λ r. ⌜ r ≡ settingsPlayed bank settings registration (now (out .entry)) ⌝ }
+    ensures { λ r. ⌜ madeOf r (now (out .exit)) ≡ settingsPlayed bank settings registration (now (out .entry)) ⌝ }
 {
     match settings {
         Settings::VariableShape {
@@ -78,7 +79,7 @@ fn shape(
     phase_output: bool,
     out: &mut [f32],
 ) -> Played
-    ensures { λ r. ⌜ r ≡ shapePlayed bank (shapeCall (bank .shape) «master_frequency» frequency pw waveshape «phase_modulation» sync «phase_output» (now (out .entry))) ⌝ }
+    ensures { λ r. ⌜ madeOf r (now (out .exit)) ≡ shapePlayed bank (shapeCall (bank .shape) «master_frequency» frequency pw waveshape «phase_modulation» sync «phase_output» (now (out .entry))) ⌝ }
 {
     let state = bank.shape;
     let r = variable_shape::render(
@@ -103,7 +104,7 @@ fn shape(
 }
 
 fn saw(bank: Bank, frequency: f32, pw: f32, waveshape: f32, out: &mut [f32]) -> Played
-    ensures { λ r. ⌜ r ≡ sawPlayed bank (sawCall (bank .saw) frequency pw waveshape (now (out .entry))) ⌝ }
+    ensures { λ r. ⌜ madeOf r (now (out .exit)) ≡ sawPlayed bank (sawCall (bank .saw) frequency pw waveshape (now (out .entry))) ⌝ }
 {
     let state = bank.saw;
     let r = variable_saw::render(state, frequency, pw, waveshape, out);
@@ -118,7 +119,7 @@ fn saw(bank: Bank, frequency: f32, pw: f32, waveshape: f32, out: &mut [f32]) -> 
 }
 
 fn super_square(bank: Bank, frequency: f32, shape: f32, out: &mut [f32]) -> Played
-    ensures { λ r. ⌜ r ≡ superSquarePlayed bank (superSquareCall (bank .«super_square») frequency shape (now (out .entry))) ⌝ }
+    ensures { λ r. ⌜ madeOf r (now (out .exit)) ≡ superSquarePlayed bank (superSquareCall (bank .«super_square») frequency shape (now (out .entry))) ⌝ }
 {
     let state = bank.super_square;
     let r = super_square::render(state, frequency, shape, out);
@@ -133,7 +134,7 @@ fn super_square(bank: Bank, frequency: f32, shape: f32, out: &mut [f32]) -> Play
 }
 
 fn nes(bank: Bank, frequency: f32, num_bits: u32, out: &mut [f32]) -> Played
-    ensures { λ r. ⌜ r ≡ nesPlayed bank (nesCall (bank .nes) frequency «num_bits» (now (out .entry))) ⌝ }
+    ensures { λ r. ⌜ madeOf r (now (out .exit)) ≡ nesPlayed bank (nesCall (bank .nes) frequency «num_bits» (now (out .entry))) ⌝ }
 {
     let state = bank.nes;
     let r = nes_triangle::render(state, frequency, num_bits, out);
@@ -148,7 +149,7 @@ fn nes(bank: Bank, frequency: f32, num_bits: u32, out: &mut [f32]) -> Played
 }
 
 fn string(bank: Bank, frequency: f32, registration: [f32; 7], gain: f32, out: &mut [f32]) -> Played
-    ensures { λ r. ⌜ r ≡ stringPlayed bank (stringCall (bank .string) frequency registration gain (now (out .entry))) ⌝ }
+    ensures { λ r. ⌜ madeOf r (now (out .exit)) ≡ stringPlayed bank (stringCall (bank .string) frequency registration gain (now (out .entry))) ⌝ }
 {
     let state = bank.string;
     let r = string_synth::render(state, frequency, &registration, gain, out);

@@ -1,13 +1,20 @@
-// One state of each kind, and what one record makes of them.
+// One state of each kind, and what one record makes of them: its outcome, and its samples in a lent buffer.
 ghost use mathlib.Core.Path.{_≡_};
-ghost use Rattle.bank.specs.Bank.{initBank, settingsPlayed, recordPlayed, silence};
-ghost use Rattle.bank.specs.Private.{lentOf};
+ghost use mathlib.Core.List.{_++_};
+ghost use Prim.Native.Nat.{_≤_};
+ghost use lib.ListN.{length, drop};
+ghost use Rattle.bank.specs.Bank.{initBank, settingsPlayed, silence};
+ghost use Rattle.bank.specs.Lent.{noRoom, handed, playOf, left};
+ghost use Rattle.bank.specs.Private.{lentOf, madeOf};
 use block::Answer;
 use block::Counts;
 use jobs::Asked;
 use jobs::Settings;
 
 mod kinds;
+
+// The answer where the lent buffer is shorter than an answered block.
+pub const NO_ROOM: u32 = 9;
 
 pub struct Bank {
     pub shape: variable_shape::State,
@@ -41,9 +48,9 @@ pub fn start() -> Bank
     }
 }
 
-// A malformed record changes nothing.
-pub fn play(bank: Bank, part: &[u8]) -> Played
-    ensures { λ r. ⌜ r ≡ recordPlayed bank (now (part .entry)) ⌝ }
+// Plays a record. Its samples go to the front of `out`; a refused one, a malformed one among them, changes nothing. 4,096 samples are always room enough.
+pub fn play(bank: Bank, part: &[u8], out: &mut [f32]) -> Played
+    ensures { λ r. ⌜ left r (now (out .exit)) ≡ playOf bank (now (part .entry)) (now (out .entry)) ⌝ }
 {
     let job = jobs::read(part);
     let asked = job.asked;
@@ -54,22 +61,79 @@ pub fn play(bank: Bank, part: &[u8]) -> Played
         },
         Asked::Play(settings) => {
             let registration = job.registration;
-            on_silence(bank, settings, registration, job.block_length)
+            on_silence(bank, settings, registration, job.block_length, out)
         }
     }
 }
 
 // The call on zeros. A block that is too long is refused whatever its length, so that 4,097 samples stand for it.
-fn on_silence(bank: Bank, settings: Settings, registration: [f32; 7], n: u16) -> Played
-    ensures { λ r. ⌜ r ≡ settingsPlayed bank settings registration (silence n) ⌝ }
+fn on_silence(
+    bank: Bank,
+    settings: Settings,
+    registration: [f32; 7],
+    n: u16,
+    out: &mut [f32],
+) -> Played
+    ensures { λ r. ⌜ left r (now (out .exit)) ≡ handed bank (settingsPlayed bank settings registration (silence n)) (now (out .entry)) ⌝ }
 {
     let mut buffer = [0.0f32; 4097];
     let e = lent(n);
-    kinds::by_kind(bank, settings, registration, &mut buffer[0..e])
+    on_block(bank, settings, registration, &mut buffer[0..e], out)
 }
 
 fn lent(n: u16) -> usize
     ensures { λ r. ⌜ r ≡ lentOf n ⌝ }
 {
     if n <= 4097 { n as usize } else { 4097 }
+}
+
+fn on_block(
+    bank: Bank,
+    settings: Settings,
+    registration: [f32; 7],
+    samples: &mut [f32],
+    out: &mut [f32],
+) -> Played
+    ensures { λ r. ⌜ left r (now (out .exit)) ≡ handed bank (settingsPlayed bank settings registration (now (samples .entry))) (now (out .entry)) ⌝ }
+{
+    let r = kinds::by_kind(bank, settings, registration, samples);
+    hand_over(bank, r, samples, out)
+}
+
+// The samples of an answered call, where they fit.
+fn hand_over(before: Bank, r: Played, samples: &[f32], out: &mut [f32]) -> Played
+    ensures { λ q. ⌜ left q (now (out .exit)) ≡ handed before (madeOf r (now (samples .entry))) (now (out .entry)) ⌝ }
+{
+    if r.outcome.answer != 0 {
+        return r;
+    }
+    if samples.len() > out.len() {
+        return no_room(before);
+    }
+    copy(samples, out);
+    r
+}
+
+fn no_room(bank: Bank) -> Played
+    ensures { λ r. ⌜ r ≡ noRoom bank ⌝ }
+{
+    Played {
+        bank,
+        outcome: Outcome {
+            answer: NO_ROOM,
+            drift: 0,
+            counts: block::none(),
+        },
+    }
+}
+
+fn copy(from: &[f32], out: &mut [f32])
+    requires { ⌜ length (now from) ≤ length (now out) ⌝ }
+    ensures { λ r. ⌜ now (out .exit) ≡ now (from .entry) ++ drop (length (now (from .entry))) (now (out .entry)) ⌝ }
+{
+    let mut i = 0;
+    while i < from.len() {
+        out[i] = from[i];
+        i += 1;
+    }
 }

@@ -1,18 +1,27 @@
 -- The loop over the records, of plain lists. Assumes nothing.
-use mathlib.Core.Path.{_≡_, refl, sym, _∙_}
+use mathlib.Core.Path.{_≡_, refl, sym, ap, _∙_}
 use mathlib.Core.List.{List, _++_, append-assoc, append-nil}
 use Prim.Native.Nat.{ℕ, suc, _+_, _*_, _≤_, _<_}
 use native.Mathlib.Numerals.{add-one}
 use native.Mathlib.Omega.{arith}
-use lib.ListN.{take}
+use lib.ListN.{length, take}
+use lib.Ieee.{Float}
 use Rattle.jobs.specs.Words.{recordOf}
 use Rattle.bank.specs.declared.Bank.{Bank}
 use Rattle.bank.specs.declared.Played.{Played}
 use Rattle.render.specs.Line.{lineOf}
 use Rattle.bank.specs.Bank.{initBank, recordPlayed}
+use Rattle.bank.specs.Lent.{Handed, left, playOf}
+use Rattle.bank.proofs.Room.{always-room}
 use Rattle.render.specs.Lists.{recordsFrom, runOf, numbered, linesOf}
-use Rattle.render.specs.Private.{laid, Wrote}
+use Rattle.render.specs.Private.{laid, Wrote, saidOf}
 use Rattle.render.proofs.Laying.{joins, take-laid}
+
+-- one record, in a buffer that has room for any
+pub said : (b : Bank) (p : List ℕ) (r : Played) (d d' : List Float) → 4096 ≤ length d → left r d' ≡ playOf b p d → r ≡ saidOf (recordPlayed b p)
+said b p r d d' h e =
+    let same = e ∙ always-room b p d h in
+    rw (ap (λ (x : Handed). x .bank) same, ap (λ (x : Handed). x .outcome) same)
 
 -- k of n records are done: their lines are written, and with those of the rest after them they are all
 pub record Running (list d : List ℕ) (n : ℕ) (d' : List ℕ) (b : Bank) (at k : ℕ) : Type 0 where
@@ -36,7 +45,7 @@ module _ (list d : List ℕ) (n : ℕ) where
     unfolding numbered runOf recordsFrom
     running-end h = rw (w .text 0 (omega (arith, w .most)), append-nil) (w .wrote)
 
-    pub running-more : (r : Played) (e : ℕ) (d'' : List ℕ) → k < n → r ≡ recordPlayed b (recordOf list k)
+    pub running-more : (r : Played) (e : ℕ) (d'' : List ℕ) → k < n → r ≡ saidOf (recordPlayed b (recordOf list k))
         → Wrote d' at (lineOf k (r .outcome)) e d'' → e ≤ at + 77 → Running list d n d'' (r .bank) e (k + 1)
     unfolding numbered runOf recordsFrom
     running-more r e d'' h q p l =
@@ -45,5 +54,5 @@ module _ (list d : List ℕ) (n : ℕ) where
           most = omega arith;
           short = omega (arith, w .short);
           wrote = rw t (joins (w .wrote) p);
-          text = λ m g. w .text (suc m) (omega arith) ∙ rw (t, ← q, add-one) (sym (append-assoc (take at d') _ _));
+          text = λ m g. w .text (suc m) (omega arith) ∙ rw (t, q, add-one) (sym (append-assoc (take at d') _ _));
         }

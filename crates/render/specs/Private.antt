@@ -3,6 +3,8 @@ use mathlib.Core.Path.{_≡_}
 use mathlib.Core.List.{List, _++_}
 use Prim.Native.Nat.{ℕ, _+_, _≤_}
 use lib.ListN.{length, take, drop}
+use Rattle.bank.specs.declared.Played.{Played}
+use Rattle.bank.specs.Bank.{Made}
 
 -- the buffer d with a text from `at` on
 unfoldable pub laid : List ℕ → ℕ → List ℕ → List ℕ
@@ -14,3 +16,7 @@ pub record Wrote (d : List ℕ) (at : ℕ) (text : List ℕ) (r : ℕ) (d' : Lis
   pub room : r ≤ length d
   pub long : length d' ≡ length d
   pub same : d' ≡ laid d at text
+
+-- what the lines need of what a record makes
+abbrev pub saidOf : Made → Played
+saidOf m = record { bank = m .bank; outcome = m .outcome }

@@ -1,7 +1,9 @@
 -- `render::records` meets its contract. The loop's invariant: the lines of the first `k` records are written. Assumes nothing.
 use Rattle.bank.specs.Bank.{recordPlayed}
+use Rattle.render.specs.Private.{saidOf}
+use mathlib.Core.List.{List}
 use mathlib.Core.Path.{_∙_, ap}
-use Prim.Native.Nat.{_-_}
+use Prim.Native.Nat.{ℕ, _-_}
 use Rattle.render.proofs.Loop.{Running, running-start, running-more, running-end}
 use borrow.Author.Needs.{needs}
 use Rattle.render.proofs.records.Statement.{statement}
@@ -43,7 +45,7 @@ loop-again c =
     let p = l .before .before .before in
     let r = p .before in
     running-more _ _ _ _ _ _ _ (r .before .before .loop .inv) _ _ _ (r .before .loop-test .taken)
-    (p .play .ensures ∙ ap (recordPlayed _) (r .record .ensures)) (l .line .ensures .0) (l .line .ensures .1)
+    (p .play .ensures ∙ ap (λ (p : List ℕ). saidOf (recordPlayed (r .before .before .loop .bank) p)) (r .record .ensures)) (l .line .ensures .0) (l .line .ensures .1)
 
 same-length : tie.Need-same-length Inv-loop μ-loop
 same-length c = search needs
