@@ -1,20 +1,18 @@
 -- A record's samples in a lent buffer: what each way leaves, and the copy. Assumes nothing.
 use mathlib.Core.Path.{_≡_, refl, subst, _∙_}
-use mathlib.Core.Bool.{cond}
 use mathlib.Core.List.{List, [], _++_}
 use Prim.Native.Nat.{ℕ, suc, _+_, _≤_, _<_}
 use native.Mathlib.Nat.{zero-add}
 use native.Mathlib.Numerals.{add-one}
 use native.Mathlib.Omega.{arith}
 use borrow.Author.Tests.{le-leb, lt-leb, eq-eqb, ne-eqb}
-use lib.Dec.{eqb}
-use lib.ListN.{length, getD, take, drop, set, length-set}
+use lib.ListN.{length, getD, drop, set, length-set}
 use lib.Seq.{paste, paste-zero, paste-suc, take-all}
 use lib.Ieee.{Float}
 use Rattle.bank.specs.declared.Bank.{Bank}
 use Rattle.bank.specs.declared.Played.{Played}
 use Rattle.bank.specs.Bank.{Made}
-use Rattle.bank.specs.Lent.{Handed, left, noRoom, handed}
+use Rattle.bank.specs.Lent.{left, noRoom, handed}
 use Rattle.bank.specs.Private.{madeOf}
 
 -- what a record leaves where there is room, and where there is none

@@ -1,62 +1,17 @@
-// The call that each kind's settings ask for.
+// A call of each kind, and what it makes of the bank.
 ghost use mathlib.Core.Path.{_≡_};
 ghost use Rattle.variable_shape.specs.Block.{renderOf as shapeCall};
 ghost use Rattle.variable_saw.specs.Block.{renderOf as sawCall};
 ghost use Rattle.super_square.specs.Block.{renderOf as superSquareCall};
 ghost use Rattle.nes_triangle.specs.Block.{renderOf as nesCall};
 ghost use Rattle.string_synth.specs.Block.{renderOf as stringCall};
-ghost use Rattle.bank.specs.Bank.{toldOf, shapePlayed, sawPlayed, superSquarePlayed, nesPlayed, stringPlayed, settingsPlayed};
+ghost use Rattle.bank.specs.Bank.{toldOf, shapePlayed, sawPlayed, superSquarePlayed, nesPlayed, stringPlayed};
 ghost use Rattle.bank.specs.Private.{madeOf};
 use crate::Bank;
 use crate::Outcome;
 use crate::Played;
 use block::Answer;
 use block::Counts;
-use jobs::Settings;
-
-pub(crate) fn by_kind(
-    bank: Bank,
-    settings: Settings,
-    registration: [f32; 7],
-    out: &mut [f32],
-) -> Played
-    ensures { λ r. ⌜ madeOf r (now (out .exit)) ≡ settingsPlayed bank settings registration (now (out .entry)) ⌝ }
-{
-    match settings {
-        Settings::VariableShape {
-            frequency,
-            master_frequency,
-            pw,
-            waveshape,
-            phase_modulation,
-            sync,
-            phase_output,
-        } => shape(
-            bank,
-            master_frequency,
-            frequency,
-            pw,
-            waveshape,
-            phase_modulation,
-            sync,
-            phase_output,
-            out,
-        ),
-        Settings::VariableSaw {
-            frequency,
-            pw,
-            waveshape,
-        } => saw(bank, frequency, pw, waveshape, out),
-        Settings::SuperSquare { frequency, shape } => super_square(bank, frequency, shape, out),
-        Settings::NesTriangle {
-            frequency,
-            num_bits,
-        } => nes(bank, frequency, num_bits, out),
-        Settings::StringSynth { frequency, gain } => {
-            string(bank, frequency, registration, gain, out)
-        }
-    }
-}
 
 pub(crate) fn told(answer: Answer, counts: Counts) -> Outcome
     ensures { λ r. ⌜ r ≡ toldOf answer counts ⌝ }
@@ -68,7 +23,7 @@ pub(crate) fn told(answer: Answer, counts: Counts) -> Outcome
     }
 }
 
-fn shape(
+pub(crate) fn shape(
     bank: Bank,
     master_frequency: f32,
     frequency: f32,
@@ -103,7 +58,7 @@ fn shape(
     }
 }
 
-fn saw(bank: Bank, frequency: f32, pw: f32, waveshape: f32, out: &mut [f32]) -> Played
+pub(crate) fn saw(bank: Bank, frequency: f32, pw: f32, waveshape: f32, out: &mut [f32]) -> Played
     ensures { λ r. ⌜ madeOf r (now (out .exit)) ≡ sawPlayed bank (sawCall (bank .saw) frequency pw waveshape (now (out .entry))) ⌝ }
 {
     let state = bank.saw;
@@ -118,7 +73,7 @@ fn saw(bank: Bank, frequency: f32, pw: f32, waveshape: f32, out: &mut [f32]) -> 
     }
 }
 
-fn super_square(bank: Bank, frequency: f32, shape: f32, out: &mut [f32]) -> Played
+pub(crate) fn square(bank: Bank, frequency: f32, shape: f32, out: &mut [f32]) -> Played
     ensures { λ r. ⌜ madeOf r (now (out .exit)) ≡ superSquarePlayed bank (superSquareCall (bank .«super_square») frequency shape (now (out .entry))) ⌝ }
 {
     let state = bank.super_square;
@@ -133,7 +88,7 @@ fn super_square(bank: Bank, frequency: f32, shape: f32, out: &mut [f32]) -> Play
     }
 }
 
-fn nes(bank: Bank, frequency: f32, num_bits: u32, out: &mut [f32]) -> Played
+pub(crate) fn nes(bank: Bank, frequency: f32, num_bits: u32, out: &mut [f32]) -> Played
     ensures { λ r. ⌜ madeOf r (now (out .exit)) ≡ nesPlayed bank (nesCall (bank .nes) frequency «num_bits» (now (out .entry))) ⌝ }
 {
     let state = bank.nes;
@@ -148,7 +103,13 @@ fn nes(bank: Bank, frequency: f32, num_bits: u32, out: &mut [f32]) -> Played
     }
 }
 
-fn string(bank: Bank, frequency: f32, registration: [f32; 7], gain: f32, out: &mut [f32]) -> Played
+pub(crate) fn string(
+    bank: Bank,
+    frequency: f32,
+    registration: [f32; 7],
+    gain: f32,
+    out: &mut [f32],
+) -> Played
     ensures { λ r. ⌜ madeOf r (now (out .exit)) ≡ stringPlayed bank (stringCall (bank .string) frequency registration gain (now (out .entry))) ⌝ }
 {
     let state = bank.string;

@@ -96,8 +96,47 @@ fn on_block(
 ) -> Played
     ensures { λ r. ⌜ left r (now (out .exit)) ≡ handed bank (settingsPlayed bank settings registration (now (samples .entry))) (now (out .entry)) ⌝ }
 {
-    let r = kinds::by_kind(bank, settings, registration, samples);
+    let r = by_kind(bank, settings, registration, samples);
     hand_over(bank, r, samples, out)
+}
+
+fn by_kind(bank: Bank, settings: Settings, registration: [f32; 7], out: &mut [f32]) -> Played
+    ensures { λ r. ⌜ madeOf r (now (out .exit)) ≡ settingsPlayed bank settings registration (now (out .entry)) ⌝ }
+{
+    match settings {
+        Settings::VariableShape {
+            frequency,
+            master_frequency,
+            pw,
+            waveshape,
+            phase_modulation,
+            sync,
+            phase_output,
+        } => kinds::shape(
+            bank,
+            master_frequency,
+            frequency,
+            pw,
+            waveshape,
+            phase_modulation,
+            sync,
+            phase_output,
+            out,
+        ),
+        Settings::VariableSaw {
+            frequency,
+            pw,
+            waveshape,
+        } => kinds::saw(bank, frequency, pw, waveshape, out),
+        Settings::SuperSquare { frequency, shape } => kinds::square(bank, frequency, shape, out),
+        Settings::NesTriangle {
+            frequency,
+            num_bits,
+        } => kinds::nes(bank, frequency, num_bits, out),
+        Settings::StringSynth { frequency, gain } => {
+            kinds::string(bank, frequency, registration, gain, out)
+        }
+    }
 }
 
 // The samples of an answered call, where they fit.

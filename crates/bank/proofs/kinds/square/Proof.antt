@@ -1,9 +1,9 @@
--- `bank::kinds::super_square` meets its contract: the state and the outcome are the call's. Assumes nothing.
+-- `bank::kinds::square` meets its contract: the state and the outcome are the call's. Assumes nothing.
 use mathlib.Core.Path.{ap}
 use Rattle.bank.specs.Bank.{superSquarePlayed}
 use borrow.Author.Needs.{needs}
-use Rattle.bank.proofs.kinds.super_square.Statement.{statement}
-use Rattle.bank.proofs.kinds.super_square.Tie as tie
+use Rattle.bank.proofs.kinds.square.Statement.{statement}
+use Rattle.bank.proofs.kinds.square.Tie as tie
 
 render-requires : tie.Need-render-requires
 render-requires c κs = search needs
@@ -17,5 +17,5 @@ same-length c = search needs
 returns : tie.Need-returns
 returns c = let k = c .before .before .before .before in rw (c .told .ensures) (ap (superSquarePlayed (k .before .before .before .before .args .bank)) (k .render .ensures))
 
-pub super-square-spec : {M : Type 1} → statement M
-super-square-spec = tie.close (tie.spec render-requires told-requires same-length returns)
+pub square-spec : {M : Type 1} → statement M
+square-spec = tie.close (tie.spec render-requires told-requires same-length returns)

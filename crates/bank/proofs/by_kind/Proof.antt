@@ -1,7 +1,7 @@
--- `bank::kinds::by_kind` meets its contract: each case is its kind's call. Assumes nothing.
+-- `bank::by_kind` meets its contract: each case is its kind's call. Assumes nothing.
 use borrow.Author.Needs.{needs}
-use Rattle.bank.proofs.kinds.by_kind.Statement.{statement}
-use Rattle.bank.proofs.kinds.by_kind.Tie as tie
+use Rattle.bank.proofs.by_kind.Statement.{statement}
+use Rattle.bank.proofs.by_kind.Tie as tie
 
 enum-known-settings : tie.Need-enum-known-settings
 enum-known-settings c = search needs
@@ -18,8 +18,8 @@ saw-requires c κs = search needs
 enum-known-settings-3 : tie.Need-enum-known-settings-3
 enum-known-settings-3 c = search needs
 
-super-square-requires : tie.Need-super-square-requires
-super-square-requires c κs = search needs
+square-requires : tie.Need-square-requires
+square-requires c κs = search needs
 
 enum-known-settings-4 : tie.Need-enum-known-settings-4
 enum-known-settings-4 c = search needs
@@ -49,7 +49,7 @@ same-length-3 : tie.Need-same-length-3
 same-length-3 c = search needs
 
 returns-3 : tie.Need-returns-3
-returns-3 c = let k = c .before .before in rw (k .before .before .before .settings3 .given .1) (k .super-square .ensures)
+returns-3 c = let k = c .before .before in rw (k .before .before .before .settings3 .given .1) (k .square .ensures)
 
 same-length-4 : tie.Need-same-length-4
 same-length-4 c = search needs
@@ -72,7 +72,7 @@ by-kind-spec =
     enum-known-settings-2
     saw-requires
     enum-known-settings-3
-    super-square-requires
+    square-requires
     enum-known-settings-4
     nes-requires
     enum-known-settings-5
