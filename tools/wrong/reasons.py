@@ -4,6 +4,7 @@ A reason belongs to the versions whose file, kind, and old or new text are as it
 """
 
 EXACT = "a factor that is a power of two moves no rounding: no number here overflows or is subnormal"
+DOUBLED = "doubling is exact, and where it overflows the sum with -1 is infinite too"
 SQUARE = "half of t is exact, and t is 0 or at least 2^-62, so that its square is not subnormal"
 SAME_ARMS = "both arms give the same number there"
 NOTCH = "1 + 0.2 rounds to the same float"
@@ -40,7 +41,7 @@ REASONS = [
     (SQUARE_WAVE, "", "shape < 0.5", "", "at 0.5 and one float beside it both arms give 1"),
     (SQUARE_WAVE, "regrouped", "16.0 * above * above", "16.0 * (above * above)", EXACT),
     (SQUARE_WAVE, "one float", "at_reset -= 1.0", "", "it is below 17/64 then, and is compared with 0.5 only"),
-    (SQUARE_WAVE, "fused", "2.0 * pair.this - 1.0", "", EXACT),
+    (SQUARE_WAVE, "fused", "2.0 * pair.this - 1.0", "", DOUBLED),
     (TARGETS, "", "frequency >= MAX_FREQUENCY", "", SAME_ARMS),
     (TARGETS, "", "frequency >= 0.25", "", "at 0.25 the width is clamped from 0.5 to 0.5"),
     (TARGETS, "fused", "1.0 - 2.0 * frequency", "", EXACT),
@@ -48,10 +49,10 @@ REASONS = [
     (SAW, "one float", "NOTCH_DEPTH", "next_up(NOTCH_DEPTH)", NOTCH),
     (SAW, "one float", "NOTCH_DEPTH", "next_down(NOTCH_DEPTH)", NOTCH),
     (SAW, "a wrap only when high", "", "", "the width is below 1, so that a low phase from 1 up has risen before"),
-    (SAW, "fused", "2.0 * pair.this - 1.0", "", EXACT),
+    (SAW, "fused", "2.0 * pair.this - 1.0", "", DOUBLED),
     (SHAPE, "fused", "1.0 - waveshape * 2.0", "", EXACT),
-    (SHAPE, "", "x > 0.0", "", "x is 0 or at least 2^-24 from it, and what is 0 is +0"),
-    (SHAPE, "fused", "2.0 * this - 1.0", "", EXACT),
+    (SHAPE, "", "x > 0.0", "", "x is 0 or at least 2^-25 from it, and what is 0 is +0"),
+    (SHAPE, "fused", "2.0 * this - 1.0", "", DOUBLED),
     (SHAPE, "", "4.0 * (1.0 - phase) * phase", "4.0 *", EXACT),
     (SHAPE, "", "(pw - 0.5).abs() * 2.0", "2.0", EXACT),
     (LEAVES, "", "x > WHOLE_PART_END", "", SAME_ARMS),
