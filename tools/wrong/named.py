@@ -72,6 +72,8 @@ NAMED = [
     (SHAPE, "fitting_width(call.float(WIDTH_OR_SHAPE_AT), slave)", "the width fitted to the master", "fitting_width(call.float(WIDTH_OR_SHAPE_AT), master)"),
     (SHAPE, "fitting_width(call.float(WIDTH_OR_SHAPE_AT), slave)", "the width as it is", "call.float(WIDTH_OR_SHAPE_AT)"),
     (SAW, "fitting_width(call.float(WIDTH_OR_SHAPE_AT), frequency)", "the width as it is", "call.float(WIDTH_OR_SHAPE_AT)"),
+    (SQUARE, "self.slave_phase + (1.0 - time) * slave", "regrouped", "self.slave_phase + slave - time * slave"),
+    (SHAPE, "self.slave_phase + (1.0 - time) * wave.frequency", "regrouped", "self.slave_phase + wave.frequency - time * wave.frequency"),
     (SHAPE, "self.previous_pw = pw", "the previous width kept", "()"),
     (SAW, "self.previous_pw = wave.pw", "the previous width kept", "()"),
     (SAW, "self.phase >= 1.0", "a wrap only when high", "self.high && self.phase >= 1.0"),

@@ -22,6 +22,7 @@ TARGETS, RENDER, LEAVES = "calls/model/targets.rs", "calls/model/render.rs", "le
 REASONS = [
     (NES, "", "* 2.0 * count", "(2.0 * count)", EXACT),
     (NES, "", "* 2.0 * count", "* count * 2.0", EXACT),
+    (NES, "distributed", "* 2.0 * count", "frequency * 2.0", EXACT),
     (NES, "in another order", "fade * 2.0 / self.scale", "", EXACT),
     (NES, "", "4.0 * self.frequency * self.smooth", "4.0 *", EXACT),
     (NES, "one float", "corner != 0.0", "", NEAR_ZERO),
@@ -54,6 +55,7 @@ REASONS = [
     (SHAPE, "", "x > 0.0", "", "x is 0 or at least 2^-25 from it, and what is 0 is +0"),
     (SHAPE, "fused", "2.0 * this - 1.0", "", DOUBLED),
     (SHAPE, "", "4.0 * (1.0 - phase) * phase", "4.0 *", EXACT),
+    (SHAPE, "distributed", "4.0 * (1.0 - phase) * phase", "(1.0 * 4.0 - phase * 4.0)", EXACT),
     (SHAPE, "", "(pw - 0.5).abs() * 2.0", "2.0", EXACT),
     (LEAVES, "", "x > WHOLE_PART_END", "", SAME_ARMS),
     (LEAVES, "one float up", "WHOLE_PART_END as i32", "", "both floats have the whole part 131,072"),

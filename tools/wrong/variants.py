@@ -92,6 +92,23 @@ def regrouped(e):
                 yield "in another order", e.put(factors[k - 1][0], factors[k + 1][1], f"{of[k - 1]} {ways[k]} {of[k + 1]} {ways[k - 1]} {of[k]}")
 
 
+def distributed(e):
+    """A sum times a factor, each of its terms times that factor."""
+    for i, j in e.groups():
+        for term in e.split(i, j, "+-")[0]:
+            factors, ways = e.split(*term, "*/")
+            for k, way in enumerate(ways):
+                for inner, outer in ((factors[k], factors[k + 1]), (factors[k + 1], factors[k])):
+                    if way != "*" or e.texts[inner[0]] != "(" or e.matching(inner[0]) != inner[1] - 1:
+                        continue
+                    terms, signs = e.split(inner[0] + 1, inner[1] - 1, "+-")
+                    if signs:
+                        of = e.part(*outer)
+                        parts = [f"{e.part(*t)} * {of}" for t in terms]
+                        text = parts[0] + "".join(f" {s} {p}" for s, p in zip(signs, parts[1:]))
+                        yield "distributed", e.put(factors[k][0], factors[k + 1][1], f"({text})")
+
+
 def fused(e, a, sign, b, k):
     """A product and a sum rounded once."""
     first, second = e.split(*a, "*"), e.split(*b, "*")
@@ -254,7 +271,7 @@ def rows(e):
 def variants(text, fields):
     """(what, wrong text) of an expression; `fields` are those of the record that its file reads."""
     e, seen = Expression(text), {text}
-    for rule in (regrouped(e), assigned(e), constants(e), comparisons(e), bools(e), ranges(e), rooms(e), names(e, fields), rows(e)):
+    for rule in (regrouped(e), distributed(e), assigned(e), constants(e), comparisons(e), bools(e), ranges(e), rooms(e), names(e, fields), rows(e)):
         for what, new in rule:
             if new not in seen:
                 seen.add(new)
