@@ -7,21 +7,12 @@ use Rattle.bank.proofs.hand_over.Tie as tie
 returns : tie.Need-returns
 returns c = let a = c .before .before .before .before .args in refused-way (a .before) (a .r) (a .samples .now) (a .out .now) (c .if1 .taken)
 
-no-room-requires : tie.Need-no-room-requires
-no-room-requires c κs = search needs
-
 returns-2 : tie.Need-returns-2
 returns-2 c =
     let t = c .before in
     let e = t .before in
     let a = e .before .before .before .before .args in
     long-way (a .before) (a .r) (a .samples .now) (a .out .now) (e .if1 .left) _ (t .if2 .taken) (c .no-room .ensures)
-
-copy-requires : tie.Need-copy-requires
-copy-requires c κs = search needs
-
-same-length : tie.Need-same-length
-same-length c = search needs
 
 returns-3 : tie.Need-returns-3
 returns-3 c =
@@ -33,4 +24,4 @@ returns-3 c =
 
 pub hand-over-spec : {M : Type 1} → statement M
 hand-over-spec =
-    tie.close (tie.spec returns no-room-requires returns-2 copy-requires same-length returns-3)
+    tie.close (tie.spec returns (λ c κs. search needs) returns-2 (λ c κs. search needs) (λ c. search needs) returns-3)

@@ -3,11 +3,8 @@ use borrow.Author.Needs.{needs}
 use Rattle.bank.proofs.no_room.Statement.{statement}
 use Rattle.bank.proofs.no_room.Tie as tie
 
-none-requires : tie.Need-none-requires
-none-requires c κs = search needs
-
 returns : tie.Need-returns
 returns c = rw (c .none .ensures)
 
 pub no-room-spec : {M : Type 1} → statement M
-no-room-spec = tie.close (tie.spec none-requires returns)
+no-room-spec = tie.close (tie.spec (λ c κs. search needs) returns)

@@ -6,18 +6,6 @@ use borrow.Author.Needs.{needs}
 use Rattle.bank.proofs.on_block.Statement.{statement}
 use Rattle.bank.proofs.on_block.Tie as tie
 
-by-kind-requires : tie.Need-by-kind-requires
-by-kind-requires c κs = search needs
-
-hand-over-requires : tie.Need-hand-over-requires
-hand-over-requires c κs = search needs
-
-same-length : tie.Need-same-length
-same-length c = search needs
-
-same-length-2 : tie.Need-same-length-2
-same-length-2 c = search needs
-
 returns : tie.Need-returns
 returns c =
     let k = c .before .before in
@@ -27,4 +15,4 @@ returns c =
 
 pub on-block-spec : {M : Type 1} → statement M
 on-block-spec =
-    tie.close (tie.spec by-kind-requires hand-over-requires same-length same-length-2 returns)
+    tie.close (tie.spec (λ c κs. search needs) (λ c κs. search needs) (λ c. search needs) (λ c. search needs) returns)

@@ -8,23 +8,8 @@ use borrow.Author.Needs.{needs}
 use Rattle.bank.proofs.on_silence.Statement.{statement}
 use Rattle.bank.proofs.on_silence.Tie as tie
 
-lent-requires : tie.Need-lent-requires
-lent-requires c κs = search needs
-
-sub-on-block : tie.Need-sub-on-block
-sub-on-block c = search needs
-
-part-buffer-start : tie.Need-part-buffer-start
-part-buffer-start c = search needs
-
 part-buffer-end : tie.Need-part-buffer-end
 part-buffer-end c = omega (arith, c .lent .ensures, lent-most (c .before .before .args .n))
-
-on-block-requires : tie.Need-on-block-requires
-on-block-requires c κs = search needs
-
-same-length : tie.Need-same-length
-same-length c = search needs
 
 returns : tie.Need-returns
 returns c =
@@ -37,10 +22,10 @@ pub on-silence-spec : {M : Type 1} → statement M
 on-silence-spec =
     tie.close
     (tie.spec
-    lent-requires
-    sub-on-block
-    part-buffer-start
+    (λ c κs. search needs)
+    (λ c. search needs)
+    (λ c. search needs)
     part-buffer-end
-    on-block-requires
-    same-length
+    (λ c κs. search needs)
+    (λ c. search needs)
     returns)

@@ -6,24 +6,6 @@ use borrow.Author.Needs.{needs}
 use Rattle.bank.proofs.play.Statement.{statement}
 use Rattle.bank.proofs.play.Tie as tie
 
-read-requires : tie.Need-read-requires
-read-requires c κs = search needs
-
-enum-told : tie.Need-enum-told
-enum-told c = search needs
-
-none-requires : tie.Need-none-requires
-none-requires c κs = search needs
-
-told-requires : tie.Need-told-requires
-told-requires c κs = search needs
-
-enum-known-asked : tie.Need-enum-known-asked
-enum-known-asked c = search needs
-
-on-silence-requires : tie.Need-on-silence-requires
-on-silence-requires c κs = search needs
-
 returns : tie.Need-returns
 unfolding recordPlayed
 returns c =
@@ -31,9 +13,6 @@ returns c =
     let r = t .before .before in
     let a = r .before .before .before .args in
     rw (← r .read .ensures, t .enum-told .given .1, c .told .ensures, c .before .none .ensures) (sym (without-samples (a .bank) (refusedRecord (a .bank)) (a .out .now) refl))
-
-same-length : tie.Need-same-length
-same-length c = search needs
 
 returns-2 : tie.Need-returns-2
 unfolding recordPlayed
@@ -46,12 +25,12 @@ pub play-spec : {M : Type 1} → statement M
 play-spec =
     tie.close
     (tie.spec
-    read-requires
-    enum-told
-    none-requires
-    told-requires
-    enum-known-asked
-    on-silence-requires
+    (λ c κs. search needs)
+    (λ c. search needs)
+    (λ c κs. search needs)
+    (λ c κs. search needs)
+    (λ c. search needs)
+    (λ c κs. search needs)
     returns
-    same-length
+    (λ c. search needs)
     returns-2)

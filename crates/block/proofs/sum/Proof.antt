@@ -4,18 +4,6 @@ use borrow.Author.Needs.{needs}
 use Rattle.block.proofs.sum.Statement.{statement}
 use Rattle.block.proofs.sum.Tie as tie
 
-wrapping-add-u32-requires : tie.Need-wrapping-add-u32-requires
-wrapping-add-u32-requires c κs = search needs
-
-wrapping-add-u32-requires-2 : tie.Need-wrapping-add-u32-requires-2
-wrapping-add-u32-requires-2 c κs = search needs
-
-wrapping-add-u32-requires-3 : tie.Need-wrapping-add-u32-requires-3
-wrapping-add-u32-requires-3 c κs = search needs
-
-wrapping-add-u32-requires-4 : tie.Need-wrapping-add-u32-requires-4
-wrapping-add-u32-requires-4 c κs = search needs
-
 returns : tie.Need-returns
 returns c = rw (c .before .before .before .wrapping-add-u32 .ensures, c .before .before .wrapping-add-u322 .ensures, c .before .wrapping-add-u323 .ensures, c .wrapping-add-u324 .ensures) refl
 
@@ -23,8 +11,8 @@ pub sum-spec : {M : Type 1} → statement M
 sum-spec =
     tie.close
     (tie.spec
-    wrapping-add-u32-requires
-    wrapping-add-u32-requires-2
-    wrapping-add-u32-requires-3
-    wrapping-add-u32-requires-4
+    (λ c κs. search needs)
+    (λ c κs. search needs)
+    (λ c κs. search needs)
+    (λ c κs. search needs)
     returns)

@@ -15,9 +15,6 @@ module _ (x low high raised : Float) (at : raised ≡ atLeast x low) where
   kept : lt high raised ≡ false → raised ≡ clampOf x low high
   kept h = rw (← at) (other _ _ _ h)
 
-at-least-requires : tie.Need-at-least-requires
-at-least-requires c κs = search needs
-
 returns : tie.Need-returns
 returns c = lowered _ _ _ _ (c .before .at-least .ensures) (c .if1 .taken)
 
@@ -25,4 +22,4 @@ returns-2 : tie.Need-returns-2
 returns-2 c = kept _ _ _ _ (c .before .at-least .ensures) (c .if1 .left)
 
 pub clamp-spec : {M : Type 1} → statement M
-clamp-spec = tie.close (tie.spec at-least-requires returns returns-2)
+clamp-spec = tie.close (tie.spec (λ c κs. search needs) returns returns-2)

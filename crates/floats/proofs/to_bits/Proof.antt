@@ -21,8 +21,5 @@ returns : tie.Need-returns
 unfolding toBits
 returns c = sym (ap (toBits binary32) (differs-from-itself _ (subst T (sym (c .if1 .taken)) tt)))
 
-returns-2 : tie.Need-returns-2
-returns-2 c = search needs
-
 pub to-bits-spec : {M : Type 1} → statement M
-to-bits-spec = tie.close (tie.spec float-to-bits-result returns returns-2)
+to-bits-spec = tie.close (tie.spec float-to-bits-result returns (λ c. search needs))

@@ -10,15 +10,6 @@ returns : tie.Need-returns
 unfolding askedOf
 returns c = rw (ne-eqb _ 64 (c .if1 .taken))
 
-shared-slice-read-kind : tie.Need-shared-slice-read-kind
-shared-slice-read-kind c = search needs
-
-zero-requires : tie.Need-zero-requires
-zero-requires c κs = search needs
-
-by-kind-requires : tie.Need-by-kind-requires
-by-kind-requires c κs = search needs
-
 returns-2 : tie.Need-returns-2
 unfolding askedOf
 returns-2 c = rw (eq-eqb _ 64 (c .before .before .before .before .if1 .left), sym (c .before .before .zero .ensures) ∙ c .before .if2 .taken) (c .by-kind .ensures)
@@ -30,4 +21,4 @@ returns-3 c = rw (eq-eqb _ 64 (c .before .before .before .if1 .left), sym (c .be
 pub asks-spec : {M : Type 1} → statement M
 asks-spec =
     tie.close
-    (tie.spec returns shared-slice-read-kind zero-requires by-kind-requires returns-2 returns-3)
+    (tie.spec returns (λ c. search needs) (λ c κs. search needs) (λ c κs. search needs) returns-2 returns-3)

@@ -5,21 +5,6 @@ use borrow.Author.Needs.{needs}
 use Rattle.jobs.proofs.by_kind.Statement.{statement}
 use Rattle.jobs.proofs.by_kind.Tie as tie
 
-shape-requires : tie.Need-shape-requires
-shape-requires c κs = search needs
-
-saw-requires : tie.Need-saw-requires
-saw-requires c κs = search needs
-
-super-square-requires : tie.Need-super-square-requires
-super-square-requires c κs = search needs
-
-nes-requires : tie.Need-nes-requires
-nes-requires c κs = search needs
-
-string-requires : tie.Need-string-requires
-string-requires c κs = search needs
-
 returns : tie.Need-returns
 unfolding byKindOf
 returns c = rw (c .before .match .keys1) (c .shape .ensures)
@@ -52,11 +37,11 @@ pub by-kind-spec : {M : Type 1} → statement M
 by-kind-spec =
     tie.close
     (tie.spec
-    shape-requires
-    saw-requires
-    super-square-requires
-    nes-requires
-    string-requires
+    (λ c κs. search needs)
+    (λ c κs. search needs)
+    (λ c κs. search needs)
+    (λ c κs. search needs)
+    (λ c κs. search needs)
     returns
     returns-2
     returns-3

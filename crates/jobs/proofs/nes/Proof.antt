@@ -6,15 +6,6 @@ use borrow.Author.Needs.{needs}
 use Rattle.jobs.proofs.nes.Statement.{statement}
 use Rattle.jobs.proofs.nes.Tie as tie
 
-word-at-requires : tie.Need-word-at-requires
-word-at-requires c κs = search needs
-
-step-count-in-requires : tie.Need-step-count-in-requires
-step-count-in-requires c κs = search needs
-
-float-at-requires : tie.Need-float-at-requires
-float-at-requires c κs = search needs
-
 returns : tie.Need-returns
 unfolding nesOf
 returns c =
@@ -30,4 +21,4 @@ returns-2 c =
 pub nes-spec : {M : Type 1} → statement M
 nes-spec =
     tie.close
-    (tie.spec word-at-requires step-count-in-requires float-at-requires returns returns-2)
+    (tie.spec (λ c κs. search needs) (λ c κs. search needs) (λ c κs. search needs) returns returns-2)

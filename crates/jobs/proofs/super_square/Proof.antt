@@ -5,15 +5,9 @@ use borrow.Author.Needs.{needs}
 use Rattle.jobs.proofs.super_square.Statement.{statement}
 use Rattle.jobs.proofs.super_square.Tie as tie
 
-float-at-requires : tie.Need-float-at-requires
-float-at-requires c κs = search needs
-
-float-at-requires-2 : tie.Need-float-at-requires-2
-float-at-requires-2 c κs = search needs
-
 returns : tie.Need-returns
 unfolding superSquareOf
 returns c = rw (c .before .float-at .ensures, c .float-at2 .ensures) refl
 
 pub super-square-spec : {M : Type 1} → statement M
-super-square-spec = tie.close (tie.spec float-at-requires float-at-requires-2 returns)
+super-square-spec = tie.close (tie.spec (λ c κs. search needs) (λ c κs. search needs) returns)

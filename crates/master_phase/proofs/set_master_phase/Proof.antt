@@ -4,9 +4,6 @@ use borrow.Author.Needs.{needs}
 use Rattle.master_phase.proofs.set_master_phase.Statement.{statement}
 use Rattle.master_phase.proofs.set_master_phase.Tie as tie
 
-phase-in-requires : tie.Need-phase-in-requires
-phase-in-requires c κs = search needs
-
 returns : tie.Need-returns
 returns c = rw (sym (c .before .phase-in .ensures) ∙ c .if1 .taken) refl
 
@@ -14,4 +11,4 @@ returns-2 : tie.Need-returns-2
 returns-2 c = rw (sym (c .before .phase-in .ensures) ∙ c .if1 .left) refl
 
 pub set-master-phase-spec : {M : Type 1} → statement M
-set-master-phase-spec = tie.close (tie.spec phase-in-requires returns returns-2)
+set-master-phase-spec = tie.close (tie.spec (λ c κs. search needs) returns returns-2)

@@ -16,34 +16,16 @@ abbrev μ-loop : tie.MeasureT-loop
 of-bits-requires : tie.Need-of-bits-requires Inv-loop μ-loop
 of-bits-requires c κs = let b = c .before .pre .fit .valid .bits-in in (b .low, b .high)
 
-none-requires : tie.Need-none-requires Inv-loop μ-loop
-none-requires c κs = search needs
-
 loop-holds : tie.Need-loop-holds Inv-loop μ-loop
 loop-holds c =
     let p = c .before .before .before .pre in
     turning-start _ (p .fit .valid .bits-in) _ _ _ _ (c .none .ensures) p
-
-next-requires : tie.Need-next-requires Inv-loop μ-loop
-next-requires c κs = search needs
 
 sample-requires : tie.Need-sample-requires Inv-loop μ-loop
 sample-requires c κs =
     let t = c .before in
     let o = t .before .before .before in
     turning-ready _ (o .before .before .pre .fit .valid .bits-in) _ _ _ _ _ _ _ _ (t .before .loop .inv) (t .loop-test .taken) _ _ (o .of-bits .ensures) (c .next .ensures)
-
-mul-out : tie.Need-mul-out Inv-loop μ-loop
-mul-out c = search needs
-
-slice-write-out : tie.Need-slice-write-out Inv-loop μ-loop
-slice-write-out c = search needs
-
-sum-requires : tie.Need-sum-requires Inv-loop μ-loop
-sum-requires c κs = search needs
-
-add-i : tie.Need-add-i Inv-loop μ-loop
-add-i c = search needs
 
 loop-less : tie.Need-loop-less Inv-loop μ-loop
 loop-less c = omega (arith, c .before .before .before .before .before .loop .inv .long)
@@ -70,14 +52,14 @@ play-spec =
     Inv-loop
     μ-loop
     of-bits-requires
-    none-requires
+    (λ c κs. search needs)
     loop-holds
-    next-requires
+    (λ c κs. search needs)
     sample-requires
-    mul-out
-    slice-write-out
-    sum-requires
-    add-i
+    (λ c. search needs)
+    (λ c. search needs)
+    (λ c κs. search needs)
+    (λ c. search needs)
     loop-less
     loop-again
     same-length

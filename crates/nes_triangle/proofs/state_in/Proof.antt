@@ -7,15 +7,6 @@ use borrow.Author.Needs.{needs}
 use Rattle.nes_triangle.proofs.state_in.Statement.{statement}
 use Rattle.nes_triangle.proofs.state_in.Tie as tie
 
-phase-in-requires : tie.Need-phase-in-requires
-phase-in-requires c κs = search needs
-
-frequency-in-requires : tie.Need-frequency-in-requires
-frequency-in-requires c κs = search needs
-
-step-in-requires : tie.Need-step-in-requires
-step-in-requires c κs = search needs
-
 returns : tie.Need-returns
 unfolding stateIn
 returns c =
@@ -24,4 +15,4 @@ returns c =
 
 pub state-in-spec : {M : Type 1} → statement M
 state-in-spec =
-    tie.close (tie.spec phase-in-requires frequency-in-requires step-in-requires returns)
+    tie.close (tie.spec (λ c κs. search needs) (λ c κs. search needs) (λ c κs. search needs) returns)

@@ -14,9 +14,6 @@ cast-result c =
     let fits = a .fits .step in
     (not-negative (toZ w32 (ofZ w32 (a .args .step))) (c .if1 .left), rw (toZ-ofZ fits) (fits-natAbs tt fits))
 
-tested-bits-requires : tie.Need-tested-bits-requires
-tested-bits-requires c κs = search needs
-
 steps-requires : tie.Need-steps-requires
 steps-requires c κs = c .tested-bits .ensures .1
 
@@ -31,4 +28,4 @@ returns-2 c =
 
 pub step-in-spec : {M : Type 1} → statement M
 step-in-spec =
-    tie.close (tie.spec cast-result tested-bits-requires steps-requires returns returns-2)
+    tie.close (tie.spec cast-result (λ c κs. search needs) steps-requires returns returns-2)

@@ -5,21 +5,6 @@ use borrow.Author.Needs.{needs}
 use Rattle.nes_triangle_face.proofs.words_of.Statement.{statement}
 use Rattle.nes_triangle_face.proofs.words_of.Tie as tie
 
-to-bits-requires : tie.Need-to-bits-requires
-to-bits-requires c κs = search needs
-
-to-bits-requires-2 : tie.Need-to-bits-requires-2
-to-bits-requires-2 c κs = search needs
-
-unsigned-requires : tie.Need-unsigned-requires
-unsigned-requires c κs = search needs
-
-one-if-requires : tie.Need-one-if-requires
-one-if-requires c κs = search needs
-
-to-bits-requires-3 : tie.Need-to-bits-requires-3
-to-bits-requires-3 c κs = search needs
-
 returns : tie.Need-returns
 unfolding wordsOf
 returns c =
@@ -34,9 +19,9 @@ pub words-of-spec : {M : Type 1} → statement M
 words-of-spec =
     tie.close
     (tie.spec
-    to-bits-requires
-    to-bits-requires-2
-    unsigned-requires
-    one-if-requires
-    to-bits-requires-3
+    (λ c κs. search needs)
+    (λ c κs. search needs)
+    (λ c κs. search needs)
+    (λ c κs. search needs)
+    (λ c κs. search needs)
     returns)

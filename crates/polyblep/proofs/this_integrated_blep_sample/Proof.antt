@@ -3,11 +3,8 @@ use borrow.Author.Needs.{needs}
 use Rattle.polyblep.proofs.this_integrated_blep_sample.Statement.{statement}
 use Rattle.polyblep.proofs.this_integrated_blep_sample.Tie as tie
 
-next-integrated-blep-sample-requires : tie.Need-next-integrated-blep-sample-requires
-next-integrated-blep-sample-requires c κs = search needs
-
 returns : tie.Need-returns
 returns c = c .next-integrated-blep-sample .ensures
 
 pub this-integrated-blep-sample-spec : {M : Type 1} → statement M
-this-integrated-blep-sample-spec = tie.close (tie.spec next-integrated-blep-sample-requires returns)
+this-integrated-blep-sample-spec = tie.close (tie.spec (λ c κs. search needs) returns)

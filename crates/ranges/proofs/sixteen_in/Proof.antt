@@ -3,11 +3,8 @@ use borrow.Author.Needs.{needs}
 use Rattle.ranges.proofs.sixteen_in.Statement.{statement}
 use Rattle.ranges.proofs.sixteen_in.Tie as tie
 
-within-requires : tie.Need-within-requires
-within-requires c κs = search needs
-
 returns : tie.Need-returns
 returns c = c .within .ensures
 
 pub sixteen-in-spec : {M : Type 1} → statement M
-sixteen-in-spec = tie.close (tie.spec within-requires returns)
+sixteen-in-spec = tie.close (tie.spec (λ c κs. search needs) returns)

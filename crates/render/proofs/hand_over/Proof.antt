@@ -4,12 +4,6 @@ use borrow.Author.Needs.{needs}
 use Rattle.render.proofs.hand_over.Statement.{statement}
 use Rattle.render.proofs.hand_over.Tie as tie
 
-append-requires : tie.Need-append-requires
-append-requires c κs = search needs
-
-same-length : tie.Need-same-length
-same-length c = search needs
-
 returns : tie.Need-returns
 returns c = handed _ _ _ _ (c .before .before .before .before .if1 .taken) (c .before .before .append .ensures)
 
@@ -17,4 +11,4 @@ returns-2 : tie.Need-returns-2
 returns-2 c = let a = c .before .before .before .args in not-handed (a .from .now) (a .out .now) (c .if1 .left)
 
 pub hand-over-spec : {M : Type 1} → statement M
-hand-over-spec = tie.close (tie.spec append-requires same-length returns returns-2)
+hand-over-spec = tie.close (tie.spec (λ c κs. search needs) (λ c. search needs) returns returns-2)

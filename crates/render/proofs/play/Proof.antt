@@ -5,14 +5,8 @@ use borrow.Author.Needs.{needs}
 use Rattle.render.proofs.play.Statement.{statement}
 use Rattle.render.proofs.play.Tie as tie
 
-slice-aggregate-play : tie.Need-slice-aggregate-play
-slice-aggregate-play c = search needs
-
-play-requires : tie.Need-play-requires
-play-requires c κs = search needs
-
 returns : tie.Need-returns
 returns c = let k = c .before in said _ _ _ _ _ (omega arith) (k .play .ensures)
 
 pub play-spec : {M : Type 1} → statement M
-play-spec = tie.close (tie.spec slice-aggregate-play play-requires returns)
+play-spec = tie.close (tie.spec (λ c. search needs) (λ c κs. search needs) returns)

@@ -27,18 +27,6 @@ record-requires c κs = tt
 play-requires : tie.Need-play-requires Inv-loop μ-loop
 play-requires c κs = tt
 
-cast-line : tie.Need-cast-line Inv-loop μ-loop
-cast-line c = search needs
-
-line-requires : tie.Need-line-requires Inv-loop μ-loop
-line-requires c κs = search needs
-
-add-k : tie.Need-add-k Inv-loop μ-loop
-add-k c = search needs
-
-loop-less : tie.Need-loop-less Inv-loop μ-loop
-loop-less c = search needs
-
 loop-again : tie.Need-loop-again Inv-loop μ-loop
 loop-again c =
     let l = c .before .before in
@@ -46,9 +34,6 @@ loop-again c =
     let r = p .before in
     running-more _ _ _ _ _ _ _ (r .before .before .loop .inv) _ _ _ (r .before .loop-test .taken)
     (p .play .ensures ∙ ap (λ (p : List ℕ). saidOf (recordPlayed (r .before .before .loop .bank) p)) (r .record .ensures)) (l .line .ensures .0) (l .line .ensures .1)
-
-same-length : tie.Need-same-length Inv-loop μ-loop
-same-length c = search needs
 
 returns : tie.Need-returns Inv-loop μ-loop
 returns c = running-end _ _ _ _ _ _ _ (c .before .loop .inv) (c .loop-test .left)
@@ -63,10 +48,10 @@ records-spec =
     loop-holds
     record-requires
     play-requires
-    cast-line
-    line-requires
-    add-k
-    loop-less
+    (λ c. search needs)
+    (λ c κs. search needs)
+    (λ c. search needs)
+    (λ c. search needs)
     loop-again
-    same-length
+    (λ c. search needs)
     returns)

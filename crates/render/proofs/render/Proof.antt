@@ -8,27 +8,6 @@ use borrow.Author.Needs.{needs}
 use Rattle.render.proofs.render.Statement.{statement}
 use Rattle.render.proofs.render.Tie as tie
 
-slice-aggregate-compose : tie.Need-slice-aggregate-compose
-slice-aggregate-compose c = search needs
-
-compose-requires : tie.Need-compose-requires
-compose-requires c κs = search needs
-
-sub-hand-over : tie.Need-sub-hand-over
-sub-hand-over c = search needs
-
-part-hand-over-start : tie.Need-part-hand-over-start
-part-hand-over-start c = search needs
-
-part-hand-over-end : tie.Need-part-hand-over-end
-part-hand-over-end c = search needs
-
-hand-over-requires : tie.Need-hand-over-requires
-hand-over-requires c κs = search needs
-
-same-length : tie.Need-same-length
-same-length c = search needs
-
 returns : tie.Need-returns
 returns c =
     let k = c .before .before in
@@ -40,11 +19,11 @@ pub render-spec : {M : Type 1} → statement M
 render-spec =
     tie.close
     (tie.spec
-    slice-aggregate-compose
-    compose-requires
-    sub-hand-over
-    part-hand-over-start
-    part-hand-over-end
-    hand-over-requires
-    same-length
+    (λ c. search needs)
+    (λ c κs. search needs)
+    (λ c. search needs)
+    (λ c. search needs)
+    (λ c. search needs)
+    (λ c κs. search needs)
+    (λ c. search needs)
     returns)

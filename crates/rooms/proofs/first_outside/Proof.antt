@@ -26,33 +26,6 @@ walk-holds c = (walked-start _ _ _, c .good .0 .1 .0 .1, c .good .1 .0 .1 .0 .1)
 loop-holds : tie.Need-loop-holds Inv-loop μ-loop Inv-walk μ-walk
 loop-holds c = let w = c .before .walk .inv in (moving-start _ _, search needs, w .0 .long ∙ w .1, w .2)
 
-mul-next : tie.Need-mul-next Inv-loop μ-loop Inv-walk μ-walk
-mul-next c = search needs
-
-array-copy-out-next : tie.Need-array-copy-out-next Inv-loop μ-loop Inv-walk μ-walk
-array-copy-out-next c = search needs
-
-next-requires : tie.Need-next-requires Inv-loop μ-loop Inv-walk μ-walk
-next-requires c κs = search needs
-
-mul-moving : tie.Need-mul-moving Inv-loop μ-loop Inv-walk μ-walk
-mul-moving c = search needs
-
-array-set-from-moving : tie.Need-array-set-from-moving Inv-loop μ-loop Inv-walk μ-walk
-array-set-from-moving c = search needs
-
-array-copy-out-in-room : tie.Need-array-copy-out-in-room Inv-loop μ-loop Inv-walk μ-walk
-array-copy-out-in-room c = search needs
-
-in-room-requires : tie.Need-in-room-requires Inv-loop μ-loop Inv-walk μ-walk
-in-room-requires c κs = search needs
-
-add-k : tie.Need-add-k Inv-loop μ-loop Inv-walk μ-walk
-add-k c = search needs
-
-loop-less : tie.Need-loop-less Inv-loop μ-loop Inv-walk μ-walk
-loop-less c = search needs
-
 loop-again : tie.Need-loop-again Inv-loop μ-loop Inv-walk μ-walk
 loop-again c =
     let at = c .before .before .before .before .before .before .loop in
@@ -63,12 +36,6 @@ loop-again c =
       m .2,
       m .3,
     )
-
-add-i : tie.Need-add-i Inv-loop μ-loop Inv-walk μ-walk
-add-i c = search needs
-
-walk-less : tie.Need-walk-less Inv-loop μ-loop Inv-walk μ-walk
-walk-less c = search needs
 
 walk-again : tie.Need-walk-again Inv-loop μ-loop Inv-walk μ-walk
 walk-again c =
@@ -99,18 +66,18 @@ first-outside-spec =
     μ-walk
     walk-holds
     loop-holds
-    mul-next
-    array-copy-out-next
-    next-requires
-    mul-moving
-    array-set-from-moving
-    array-copy-out-in-room
-    in-room-requires
-    add-k
-    loop-less
+    (λ c. search needs)
+    (λ c. search needs)
+    (λ c κs. search needs)
+    (λ c. search needs)
+    (λ c. search needs)
+    (λ c. search needs)
+    (λ c κs. search needs)
+    (λ c. search needs)
+    (λ c. search needs)
     loop-again
-    add-i
-    walk-less
+    (λ c. search needs)
+    (λ c. search needs)
     walk-again
     returns
     returns-2)

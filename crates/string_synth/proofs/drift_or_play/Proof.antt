@@ -5,21 +5,6 @@ use Rattle.block.proofs.Runs.{walk-drift, walk-done}
 use Rattle.string_synth.proofs.drift_or_play.Statement.{statement}
 use Rattle.string_synth.proofs.drift_or_play.Tie as tie
 
-cast-walk : tie.Need-cast-walk
-cast-walk c = search needs
-
-walk-requires : tie.Need-walk-requires
-walk-requires c κs = search needs
-
-enum-known-i : tie.Need-enum-known-i
-enum-known-i c = search needs
-
-refuse-requires : tie.Need-refuse-requires
-refuse-requires c κs = search needs
-
-enum-told : tie.Need-enum-told
-enum-told c = search needs
-
 play-requires : tie.Need-play-requires
 play-requires c κs =
     let t = c .before in
@@ -31,9 +16,6 @@ returns c =
     let t = c .before in
     rw (c .refuse .ensures) (walk-drift _ _ _ _ _ _ (t .before .before .before .walk .ensures) _ (t .before .i .given .1))
 
-same-length : tie.Need-same-length
-same-length c = search needs
-
 returns-2 : tie.Need-returns-2
 returns-2 c =
     let p = c .before .before in
@@ -44,12 +26,12 @@ pub drift-or-play-spec : {M : Type 1} → statement M
 drift-or-play-spec =
     tie.close
     (tie.spec
-    cast-walk
-    walk-requires
-    enum-known-i
-    refuse-requires
-    enum-told
+    (λ c. search needs)
+    (λ c κs. search needs)
+    (λ c. search needs)
+    (λ c κs. search needs)
+    (λ c. search needs)
     play-requires
     returns
-    same-length
+    (λ c. search needs)
     returns-2)

@@ -6,18 +6,6 @@ use borrow.Author.Needs.{needs}
 use Rattle.string_synth.proofs.gains_in.Statement.{statement}
 use Rattle.string_synth.proofs.gains_in.Tie as tie
 
-sixteen-in-requires : tie.Need-sixteen-in-requires
-sixteen-in-requires c κs = search needs
-
-sixteen-in-requires-2 : tie.Need-sixteen-in-requires-2
-sixteen-in-requires-2 c κs = search needs
-
-sixteen-in-requires-3 : tie.Need-sixteen-in-requires-3
-sixteen-in-requires-3 c κs = search needs
-
-sixteen-in-requires-4 : tie.Need-sixteen-in-requires-4
-sixteen-in-requires-4 c κs = search needs
-
 returns : tie.Need-returns
 unfolding gainsIn
 returns c = rw (c .before .before .before .sixteen-in .ensures, c .before .before .sixteen-in2 .ensures, c .before .sixteen-in3 .ensures, c .sixteen-in4 .ensures) (joined-all _ (_ ∷ _ ∷ _ ∷ []))
@@ -26,8 +14,8 @@ pub gains-in-spec : {M : Type 1} → statement M
 gains-in-spec =
     tie.close
     (tie.spec
-    sixteen-in-requires
-    sixteen-in-requires-2
-    sixteen-in-requires-3
-    sixteen-in-requires-4
+    (λ c κs. search needs)
+    (λ c κs. search needs)
+    (λ c κs. search needs)
+    (λ c κs. search needs)
     returns)

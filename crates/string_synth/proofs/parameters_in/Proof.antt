@@ -6,15 +6,6 @@ use borrow.Author.Needs.{needs}
 use Rattle.string_synth.proofs.parameters_in.Statement.{statement}
 use Rattle.string_synth.proofs.parameters_in.Tie as tie
 
-parameter-frequency-in-requires : tie.Need-parameter-frequency-in-requires
-parameter-frequency-in-requires c κs = search needs
-
-registration-in-requires : tie.Need-registration-in-requires
-registration-in-requires c κs = search needs
-
-within-requires : tie.Need-within-requires
-within-requires c κs = search needs
-
 returns : tie.Need-returns
 unfolding parametersIn
 returns c = rw (c .before .before .parameter-frequency-in .ensures, c .before .registration-in .ensures, c .within .ensures) (joined-all _ (_ ∷ _ ∷ []))
@@ -22,4 +13,4 @@ returns c = rw (c .before .before .parameter-frequency-in .ensures, c .before .r
 pub parameters-in-spec : {M : Type 1} → statement M
 parameters-in-spec =
     tie.close
-    (tie.spec parameter-frequency-in-requires registration-in-requires within-requires returns)
+    (tie.spec (λ c κs. search needs) (λ c κs. search needs) (λ c κs. search needs) returns)

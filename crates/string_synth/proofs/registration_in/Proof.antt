@@ -15,21 +15,6 @@ abbrev μ-loop : tie.MeasureT-loop
 loop-holds : tie.Need-loop-holds Inv-loop μ-loop
 loop-holds c = tested-start _
 
-mul-unit-in : tie.Need-mul-unit-in Inv-loop μ-loop
-mul-unit-in c = search needs
-
-shared-slice-read-unit-in : tie.Need-shared-slice-read-unit-in Inv-loop μ-loop
-shared-slice-read-unit-in c = search needs
-
-unit-in-requires : tie.Need-unit-in-requires Inv-loop μ-loop
-unit-in-requires c κs = search needs
-
-add-i : tie.Need-add-i Inv-loop μ-loop
-add-i c = search needs
-
-loop-less : tie.Need-loop-less Inv-loop μ-loop
-loop-less c = search needs
-
 loop-again : tie.Need-loop-again Inv-loop μ-loop
 loop-again c = tested-more _ _ _ (c .before .before .before .loop .inv) (c .before .before .loop-test .taken) _ (c .unit-in .ensures)
 
@@ -43,10 +28,10 @@ registration-in-spec =
     Inv-loop
     μ-loop
     loop-holds
-    mul-unit-in
-    shared-slice-read-unit-in
-    unit-in-requires
-    add-i
-    loop-less
+    (λ c. search needs)
+    (λ c. search needs)
+    (λ c κs. search needs)
+    (λ c. search needs)
+    (λ c. search needs)
     loop-again
     returns)

@@ -11,23 +11,11 @@ use borrow.Author.Needs.{needs}
 use Rattle.string_synth.proofs.render.Statement.{statement}
 use Rattle.string_synth.proofs.render.Tie as tie
 
-refuse-requires : tie.Need-refuse-requires
-refuse-requires c κs = search needs
-
 returns : tie.Need-returns
 returns c = rw (c .refuse .ensures) (sym (refused-by stringSynth _ _ (here (lt-leb _ _ (c .before .if1 .taken)))))
 
-refuse-requires-2 : tie.Need-refuse-requires-2
-refuse-requires-2 c κs = search needs
-
 returns-2 : tie.Need-returns-2
 returns-2 c = rw (c .refuse2 .ensures) (sym (refused-by stringSynth _ _ (later (le-leb _ _ (c .before .before .if1 .left)) (here (ne-eqb _ _ (c .before .if2 .taken))))))
-
-state-in-requires : tie.Need-state-in-requires
-state-in-requires c κs = search needs
-
-refuse-requires-3 : tie.Need-refuse-requires-3
-refuse-requires-3 c κs = search needs
 
 returns-3 : tie.Need-returns-3
 returns-3 c =
@@ -35,21 +23,12 @@ returns-3 c =
     rw (c .refuse3 .ensures)
     (sym (refused-by stringSynth _ _ (later (le-leb _ _ (t .before .before .if1 .left)) (later (eq-eqb _ _ (t .before .if2 .left)) (here (sym (t .state-in .ensures) ∙ not-true _ (c .before .if3 .taken)))))))
 
-parameters-in-requires : tie.Need-parameters-in-requires
-parameters-in-requires c κs = search needs
-
-refuse-requires-4 : tie.Need-refuse-requires-4
-refuse-requires-4 c κs = search needs
-
 returns-4 : tie.Need-returns-4
 returns-4 c =
     let p = c .before .before in
     let t = p .before .before in
     rw (c .refuse4 .ensures)
     (sym (refused-by stringSynth _ _ (later (le-leb _ _ (t .before .before .if1 .left)) (later (eq-eqb _ _ (t .before .if2 .left)) (later (sym (t .state-in .ensures) ∙ not-false _ (p .before .if3 .left)) (here (sym (p .parameters-in .ensures) ∙ not-true _ (c .before .if4 .taken))))))))
-
-refuse-requires-5 : tie.Need-refuse-requires-5
-refuse-requires-5 c κs = search needs
 
 returns-5 : tie.Need-returns-5
 returns-5 c =
@@ -59,15 +38,6 @@ returns-5 c =
     rw (c .refuse5 .ensures)
     (sym (refused-by stringSynth _ _ (later (le-leb _ _ (t .before .before .if1 .left)) (later (eq-eqb _ _ (t .before .if2 .left)) (later (sym (t .state-in .ensures) ∙ not-false _ (p .before .if3 .left)) (later (sym (p .parameters-in .ensures) ∙ not-false _ (e .if4 .left)) (here (ap not (c .before .if5 .taken)))))))))
 
-cast-n : tie.Need-cast-n
-cast-n c = search needs
-
-targets-requires : tie.Need-targets-requires
-targets-requires c κs = search needs
-
-start-requires : tie.Need-start-requires
-start-requires c κs = search needs
-
 drift-or-play-requires : tie.Need-drift-or-play-requires
 drift-or-play-requires c κs =
     let e = c .before .before .before in
@@ -75,9 +45,6 @@ drift-or-play-requires c κs =
     let l = t .before .before in
     let g = l .before .before .before .good .0 in
     record { short = l .if1 .left; valid = valid-of _ (subst T (sym (g .1 .1 .0 .1)) tt, tt) (sym (t .state-in .ensures) ∙ not-false _ (e .before .before .before .if3 .left)) }
-
-same-length : tie.Need-same-length
-same-length c = search needs
 
 returns-6 : tie.Need-returns-6
 returns-6 c =
@@ -95,21 +62,21 @@ pub render-spec : {M : Type 1} → statement M
 render-spec =
     tie.close
     (tie.spec
-    refuse-requires
+    (λ c κs. search needs)
     returns
-    refuse-requires-2
+    (λ c κs. search needs)
     returns-2
-    state-in-requires
-    refuse-requires-3
+    (λ c κs. search needs)
+    (λ c κs. search needs)
     returns-3
-    parameters-in-requires
-    refuse-requires-4
+    (λ c κs. search needs)
+    (λ c κs. search needs)
     returns-4
-    refuse-requires-5
+    (λ c κs. search needs)
     returns-5
-    cast-n
-    targets-requires
-    start-requires
+    (λ c. search needs)
+    (λ c κs. search needs)
+    (λ c κs. search needs)
     drift-or-play-requires
-    same-length
+    (λ c. search needs)
     returns-6)

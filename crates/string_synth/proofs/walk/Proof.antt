@@ -3,11 +3,8 @@ use borrow.Author.Needs.{needs}
 use Rattle.string_synth.proofs.walk.Statement.{statement}
 use Rattle.string_synth.proofs.walk.Tie as tie
 
-first-outside-requires : tie.Need-first-outside-requires
-first-outside-requires c κs = search needs
-
 returns : tie.Need-returns
 returns c = c .first-outside .ensures
 
 pub walk-spec : {M : Type 1} → statement M
-walk-spec = tie.close (tie.spec first-outside-requires returns)
+walk-spec = tie.close (tie.spec (λ c κs. search needs) returns)

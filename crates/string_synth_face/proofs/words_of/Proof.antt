@@ -5,30 +5,6 @@ use borrow.Author.Needs.{needs}
 use Rattle.string_synth_face.proofs.words_of.Statement.{statement}
 use Rattle.string_synth_face.proofs.words_of.Tie as tie
 
-to-bits-requires : tie.Need-to-bits-requires
-to-bits-requires c κs = search needs
-
-to-bits-requires-2 : tie.Need-to-bits-requires-2
-to-bits-requires-2 c κs = search needs
-
-unsigned-requires : tie.Need-unsigned-requires
-unsigned-requires c κs = search needs
-
-to-bits-requires-3 : tie.Need-to-bits-requires-3
-to-bits-requires-3 c κs = search needs
-
-to-bits-requires-4 : tie.Need-to-bits-requires-4
-to-bits-requires-4 c κs = search needs
-
-to-bits-requires-5 : tie.Need-to-bits-requires-5
-to-bits-requires-5 c κs = search needs
-
-to-bits-requires-6 : tie.Need-to-bits-requires-6
-to-bits-requires-6 c κs = search needs
-
-to-bits-requires-7 : tie.Need-to-bits-requires-7
-to-bits-requires-7 c κs = search needs
-
 returns : tie.Need-returns
 unfolding wordsOf
 returns c =
@@ -46,12 +22,12 @@ pub words-of-spec : {M : Type 1} → statement M
 words-of-spec =
     tie.close
     (tie.spec
-    to-bits-requires
-    to-bits-requires-2
-    unsigned-requires
-    to-bits-requires-3
-    to-bits-requires-4
-    to-bits-requires-5
-    to-bits-requires-6
-    to-bits-requires-7
+    (λ c κs. search needs)
+    (λ c κs. search needs)
+    (λ c κs. search needs)
+    (λ c κs. search needs)
+    (λ c κs. search needs)
+    (λ c κs. search needs)
+    (λ c κs. search needs)
+    (λ c κs. search needs)
     returns)

@@ -7,11 +7,8 @@ use Rattle.super_square.specs.Block.{rooms}
 use Rattle.super_square.proofs.walk.Statement.{statement}
 use Rattle.super_square.proofs.walk.Tie as tie
 
-first-outside-requires : tie.Need-first-outside-requires
-first-outside-requires c κs = search needs
-
 returns : tie.Need-returns
 returns c = c .first-outside .ensures ∙ padded _ rooms 3 (_ ∷ _ ∷ []) (_ ∷ _ ∷ _ ∷ []) refl
 
 pub walk-spec : {M : Type 1} → statement M
-walk-spec = tie.close (tie.spec first-outside-requires returns)
+walk-spec = tie.close (tie.spec (λ c κs. search needs) returns)

@@ -14,35 +14,8 @@ Inv-loop out₀ s₀ frequency₀ pw₀ waveshape₀ counts₀ i₀ out s freque
 abbrev μ-loop : tie.MeasureT-loop
 μ-loop out₀ s₀ frequency₀ pw₀ waveshape₀ counts₀ i₀ out s frequency pw waveshape counts i = length out₀ - i
 
-none-requires : tie.Need-none-requires Inv-loop μ-loop
-none-requires c κs = search needs
-
 loop-holds : tie.Need-loop-holds Inv-loop μ-loop
 loop-holds c = turning-start _ _ _ _ _ _ (c .none .ensures) (c .before .before .pre)
-
-next-requires : tie.Need-next-requires Inv-loop μ-loop
-next-requires c κs = search needs
-
-next-requires-2 : tie.Need-next-requires-2 Inv-loop μ-loop
-next-requires-2 c κs = search needs
-
-next-requires-3 : tie.Need-next-requires-3 Inv-loop μ-loop
-next-requires-3 c κs = search needs
-
-sample-requires : tie.Need-sample-requires Inv-loop μ-loop
-sample-requires c κs = search needs
-
-mul-out : tie.Need-mul-out Inv-loop μ-loop
-mul-out c = search needs
-
-slice-write-out : tie.Need-slice-write-out Inv-loop μ-loop
-slice-write-out c = search needs
-
-sum-requires : tie.Need-sum-requires Inv-loop μ-loop
-sum-requires c κs = search needs
-
-add-i : tie.Need-add-i Inv-loop μ-loop
-add-i c = search needs
 
 loop-less : tie.Need-loop-less Inv-loop μ-loop
 loop-less c = omega (arith, c .before .before .before .before .before .before .before .loop .inv .long)
@@ -65,16 +38,16 @@ play-spec =
     (tie.spec
     Inv-loop
     μ-loop
-    none-requires
+    (λ c κs. search needs)
     loop-holds
-    next-requires
-    next-requires-2
-    next-requires-3
-    sample-requires
-    mul-out
-    slice-write-out
-    sum-requires
-    add-i
+    (λ c κs. search needs)
+    (λ c κs. search needs)
+    (λ c κs. search needs)
+    (λ c κs. search needs)
+    (λ c. search needs)
+    (λ c. search needs)
+    (λ c κs. search needs)
+    (λ c. search needs)
     loop-less
     loop-again
     same-length

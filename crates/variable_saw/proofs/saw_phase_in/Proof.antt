@@ -3,12 +3,6 @@ use borrow.Author.Needs.{needs}
 use Rattle.variable_saw.proofs.saw_phase_in.Statement.{statement}
 use Rattle.variable_saw.proofs.saw_phase_in.Tie as tie
 
-within-requires : tie.Need-within-requires
-within-requires c κs = search needs
-
-phase-in-requires : tie.Need-phase-in-requires
-phase-in-requires c κs = search needs
-
 returns : tie.Need-returns
 returns c = rw (c .before .if1 .taken) (c .within .ensures)
 
@@ -16,4 +10,4 @@ returns-2 : tie.Need-returns-2
 returns-2 c = rw (c .before .if1 .left) (c .phase-in .ensures)
 
 pub saw-phase-in-spec : {M : Type 1} → statement M
-saw-phase-in-spec = tie.close (tie.spec within-requires phase-in-requires returns returns-2)
+saw-phase-in-spec = tie.close (tie.spec (λ c κs. search needs) (λ c κs. search needs) returns returns-2)

@@ -6,21 +6,6 @@ use borrow.Author.Needs.{needs}
 use Rattle.variable_saw.proofs.state_in.Statement.{statement}
 use Rattle.variable_saw.proofs.state_in.Tie as tie
 
-saw-phase-in-requires : tie.Need-saw-phase-in-requires
-saw-phase-in-requires c κs = search needs
-
-unit-in-requires : tie.Need-unit-in-requires
-unit-in-requires c κs = search needs
-
-frequency-in-requires : tie.Need-frequency-in-requires
-frequency-in-requires c κs = search needs
-
-unit-in-requires-2 : tie.Need-unit-in-requires-2
-unit-in-requires-2 c κs = search needs
-
-waveshape-in-requires : tie.Need-waveshape-in-requires
-waveshape-in-requires c κs = search needs
-
 returns : tie.Need-returns
 unfolding stateIn
 returns c = rw (c .before .before .before .before .saw-phase-in .ensures, c .before .before .before .unit-in .ensures, c .before .before .frequency-in .ensures, c .before .unit-in2 .ensures, c .waveshape-in .ensures) (joined-all _ (_ ∷ _ ∷ _ ∷ _ ∷ []))
@@ -29,9 +14,9 @@ pub state-in-spec : {M : Type 1} → statement M
 state-in-spec =
     tie.close
     (tie.spec
-    saw-phase-in-requires
-    unit-in-requires
-    frequency-in-requires
-    unit-in-requires-2
-    waveshape-in-requires
+    (λ c κs. search needs)
+    (λ c κs. search needs)
+    (λ c κs. search needs)
+    (λ c κs. search needs)
+    (λ c κs. search needs)
     returns)

@@ -6,21 +6,6 @@ use borrow.Author.Needs.{needs}
 use Rattle.variable_shape.proofs.parameters_in.Statement.{statement}
 use Rattle.variable_shape.proofs.parameters_in.Tie as tie
 
-parameter-frequency-in-requires : tie.Need-parameter-frequency-in-requires
-parameter-frequency-in-requires c κs = search needs
-
-parameter-frequency-in-requires-2 : tie.Need-parameter-frequency-in-requires-2
-parameter-frequency-in-requires-2 c κs = search needs
-
-unit-in-requires : tie.Need-unit-in-requires
-unit-in-requires c κs = search needs
-
-unit-in-requires-2 : tie.Need-unit-in-requires-2
-unit-in-requires-2 c κs = search needs
-
-within-requires : tie.Need-within-requires
-within-requires c κs = search needs
-
 returns : tie.Need-returns
 unfolding parametersIn
 returns c = rw (c .before .before .before .before .parameter-frequency-in .ensures, c .before .before .before .parameter-frequency-in2 .ensures, c .before .before .unit-in .ensures, c .before .unit-in2 .ensures, c .within .ensures) (joined-all _ (_ ∷ _ ∷ _ ∷ _ ∷ []))
@@ -29,9 +14,9 @@ pub parameters-in-spec : {M : Type 1} → statement M
 parameters-in-spec =
     tie.close
     (tie.spec
-    parameter-frequency-in-requires
-    parameter-frequency-in-requires-2
-    unit-in-requires
-    unit-in-requires-2
-    within-requires
+    (λ c κs. search needs)
+    (λ c κs. search needs)
+    (λ c κs. search needs)
+    (λ c κs. search needs)
+    (λ c κs. search needs)
     returns)

@@ -13,34 +13,13 @@ Inv-loop sync phase-output out₀ s₀ p₀ counts₀ i₀ out s p counts i = Tu
 abbrev μ-loop : tie.MeasureT-loop
 μ-loop sync phase-output out₀ s₀ p₀ counts₀ i₀ out s p counts i = length out₀ - i
 
-none-requires : tie.Need-none-requires Inv-loop μ-loop
-none-requires c κs = search needs
-
 loop-holds : tie.Need-loop-holds Inv-loop μ-loop
 loop-holds c = turning-start _ _ _ _ _ _ (c .none .ensures) (c .before .before .pre)
-
-advance-requires : tie.Need-advance-requires Inv-loop μ-loop
-advance-requires c κs = search needs
-
-values-requires : tie.Need-values-requires Inv-loop μ-loop
-values-requires c κs = search needs
 
 sample-requires : tie.Need-sample-requires Inv-loop μ-loop
 sample-requires c κs =
     let t = c .before .before in
     turning-ready _ _ _ _ _ _ _ _ _ _ (t .before .loop .inv) (t .loop-test .taken) _ _ (c .before .advance .ensures) (c .values .ensures)
-
-mul-out : tie.Need-mul-out Inv-loop μ-loop
-mul-out c = search needs
-
-slice-write-out : tie.Need-slice-write-out Inv-loop μ-loop
-slice-write-out c = search needs
-
-sum-requires : tie.Need-sum-requires Inv-loop μ-loop
-sum-requires c κs = search needs
-
-add-i : tie.Need-add-i Inv-loop μ-loop
-add-i c = search needs
 
 loop-less : tie.Need-loop-less Inv-loop μ-loop
 loop-less c = omega (arith, c .before .before .before .before .before .before .loop .inv .playing .long)
@@ -63,15 +42,15 @@ play-spec =
     (tie.spec
     Inv-loop
     μ-loop
-    none-requires
+    (λ c κs. search needs)
     loop-holds
-    advance-requires
-    values-requires
+    (λ c κs. search needs)
+    (λ c κs. search needs)
     sample-requires
-    mul-out
-    slice-write-out
-    sum-requires
-    add-i
+    (λ c. search needs)
+    (λ c. search needs)
+    (λ c κs. search needs)
+    (λ c. search needs)
     loop-less
     loop-again
     same-length

@@ -4,11 +4,8 @@ use borrow.Author.Needs.{needs}
 use Rattle.variable_shape.proofs.refuse.Statement.{statement}
 use Rattle.variable_shape.proofs.refuse.Tie as tie
 
-none-requires : tie.Need-none-requires
-none-requires c κs = search needs
-
 returns : tie.Need-returns
 returns c = rw (c .none .ensures) refl
 
 pub refuse-spec : {M : Type 1} → statement M
-refuse-spec = tie.close (tie.spec none-requires returns)
+refuse-spec = tie.close (tie.spec (λ c κs. search needs) returns)

@@ -20,12 +20,6 @@ five-places : (phaseOutput : Bool) (p : Interpolators) (n : ℕ)
 five-places true p n = refl
 five-places false p n = padded n (rooms false) 1 (stepping false p) (p .«phase_modulation» ∷ []) refl
 
-modulation-room-requires : tie.Need-modulation-room-requires
-modulation-room-requires c κs = search needs
-
-first-outside-requires : tie.Need-first-outside-requires
-first-outside-requires c κs = search needs
-
 returns : tie.Need-returns
 returns c =
     let m = c .before in
@@ -33,4 +27,4 @@ returns c =
     c .first-outside .ensures ∙ rw (m .modulation-room .ensures) (five-places (a .phase-output) (a .p) (a .n))
 
 pub walk-spec : {M : Type 1} → statement M
-walk-spec = tie.close (tie.spec modulation-room-requires first-outside-requires returns)
+walk-spec = tie.close (tie.spec (λ c κs. search needs) (λ c κs. search needs) returns)

@@ -5,14 +5,8 @@ use Rattle.variable_shape_face.specs.Words.{wordsOf}
 use Rattle.variable_shape_face.proofs.init.Statement.{statement}
 use Rattle.variable_shape_face.proofs.init.Tie as tie
 
-init-requires : tie.Need-init-requires
-init-requires c κs = search needs
-
-words-of-requires : tie.Need-words-of-requires
-words-of-requires c κs = search needs
-
 returns : tie.Need-returns
 returns c = c .words-of .ensures ∙ ap wordsOf (c .before .init .ensures)
 
 pub init-spec : {M : Type 1} → statement M
-init-spec = tie.close (tie.spec init-requires words-of-requires returns)
+init-spec = tie.close (tie.spec (λ c κs. search needs) (λ c κs. search needs) returns)

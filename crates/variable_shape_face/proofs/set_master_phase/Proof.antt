@@ -7,21 +7,6 @@ use borrow.Author.Needs.{needs}
 use Rattle.variable_shape_face.proofs.set_master_phase.Statement.{statement}
 use Rattle.variable_shape_face.proofs.set_master_phase.Tie as tie
 
-state-of-requires : tie.Need-state-of-requires
-state-of-requires c κs = search needs
-
-set-master-phase-requires : tie.Need-set-master-phase-requires
-set-master-phase-requires c κs = search needs
-
-number-requires : tie.Need-number-requires
-number-requires c κs = search needs
-
-to-bits-requires : tie.Need-to-bits-requires
-to-bits-requires c κs = search needs
-
-store-first-requires : tie.Need-store-first-requires
-store-first-requires c κs = search needs
-
 returns : tie.Need-returns
 returns c =
     let t = c .before in
@@ -37,9 +22,9 @@ pub set-master-phase-spec : {M : Type 1} → statement M
 set-master-phase-spec =
     tie.close
     (tie.spec
-    state-of-requires
-    set-master-phase-requires
-    number-requires
-    to-bits-requires
-    store-first-requires
+    (λ c κs. search needs)
+    (λ c κs. search needs)
+    (λ c κs. search needs)
+    (λ c κs. search needs)
+    (λ c κs. search needs)
     returns)

@@ -4,66 +4,6 @@ use borrow.Author.Needs.{needs}
 use Rattle.variable_shape_face.proofs.state_of.Statement.{statement}
 use Rattle.variable_shape_face.proofs.state_of.Tie as tie
 
-array-read-phase-beside : tie.Need-array-read-phase-beside
-array-read-phase-beside c = search needs
-
-array-read-phase-beside-2 : tie.Need-array-read-phase-beside-2
-array-read-phase-beside-2 c = search needs
-
-phase-beside-requires : tie.Need-phase-beside-requires
-phase-beside-requires c κs = search needs
-
-array-read-from-bits : tie.Need-array-read-from-bits
-array-read-from-bits c = search needs
-
-from-bits-requires : tie.Need-from-bits-requires
-from-bits-requires c κs = search needs
-
-array-read-from-bits-2 : tie.Need-array-read-from-bits-2
-array-read-from-bits-2 c = search needs
-
-from-bits-requires-2 : tie.Need-from-bits-requires-2
-from-bits-requires-2 c κs = search needs
-
-array-read-from-bits-3 : tie.Need-array-read-from-bits-3
-array-read-from-bits-3 c = search needs
-
-from-bits-requires-3 : tie.Need-from-bits-requires-3
-from-bits-requires-3 c κs = search needs
-
-array-read-t24 : tie.Need-array-read-t24
-array-read-t24 c = search needs
-
-array-read-from-bits-4 : tie.Need-array-read-from-bits-4
-array-read-from-bits-4 c = search needs
-
-from-bits-requires-4 : tie.Need-from-bits-requires-4
-from-bits-requires-4 c κs = search needs
-
-array-read-from-bits-5 : tie.Need-array-read-from-bits-5
-array-read-from-bits-5 c = search needs
-
-from-bits-requires-5 : tie.Need-from-bits-requires-5
-from-bits-requires-5 c κs = search needs
-
-array-read-from-bits-6 : tie.Need-array-read-from-bits-6
-array-read-from-bits-6 c = search needs
-
-from-bits-requires-6 : tie.Need-from-bits-requires-6
-from-bits-requires-6 c κs = search needs
-
-array-read-from-bits-7 : tie.Need-array-read-from-bits-7
-array-read-from-bits-7 c = search needs
-
-from-bits-requires-7 : tie.Need-from-bits-requires-7
-from-bits-requires-7 c κs = search needs
-
-array-read-from-bits-8 : tie.Need-array-read-from-bits-8
-array-read-from-bits-8 c = search needs
-
-from-bits-requires-8 : tie.Need-from-bits-requires-8
-from-bits-requires-8 c κs = search needs
-
 returns : tie.Need-returns
 unfolding stateOf
 returns c =
@@ -81,24 +21,24 @@ pub state-of-spec : {M : Type 1} → statement M
 state-of-spec =
     tie.close
     (tie.spec
-    array-read-phase-beside
-    array-read-phase-beside-2
-    phase-beside-requires
-    array-read-from-bits
-    from-bits-requires
-    array-read-from-bits-2
-    from-bits-requires-2
-    array-read-from-bits-3
-    from-bits-requires-3
-    array-read-t24
-    array-read-from-bits-4
-    from-bits-requires-4
-    array-read-from-bits-5
-    from-bits-requires-5
-    array-read-from-bits-6
-    from-bits-requires-6
-    array-read-from-bits-7
-    from-bits-requires-7
-    array-read-from-bits-8
-    from-bits-requires-8
+    (λ c. search needs)
+    (λ c. search needs)
+    (λ c κs. search needs)
+    (λ c. search needs)
+    (λ c κs. search needs)
+    (λ c. search needs)
+    (λ c κs. search needs)
+    (λ c. search needs)
+    (λ c κs. search needs)
+    (λ c. search needs)
+    (λ c. search needs)
+    (λ c κs. search needs)
+    (λ c. search needs)
+    (λ c κs. search needs)
+    (λ c. search needs)
+    (λ c κs. search needs)
+    (λ c. search needs)
+    (λ c κs. search needs)
+    (λ c. search needs)
+    (λ c κs. search needs)
     returns)

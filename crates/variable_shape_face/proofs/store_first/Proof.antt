@@ -4,9 +4,6 @@ use borrow.Author.Needs.{needs}
 use Rattle.variable_shape_face.proofs.store_first.Statement.{statement}
 use Rattle.variable_shape_face.proofs.store_first.Tie as tie
 
-element-write-words : tie.Need-element-write-words
-element-write-words c = search needs
-
 returns : tie.Need-returns
 returns c = rw (eq-eqb _ 0 (c .if1 .taken))
 
@@ -14,4 +11,4 @@ returns-2 : tie.Need-returns-2
 returns-2 c = rw (ne-eqb _ 0 (c .if1 .left))
 
 pub store-first-spec : {M : Type 1} → statement M
-store-first-spec = tie.close (tie.spec element-write-words returns returns-2)
+store-first-spec = tie.close (tie.spec (λ c. search needs) returns returns-2)

@@ -14,14 +14,8 @@ float-to-bits-bits c = rw (numbers one32 (c .args .x) (c .pre .0) .1) tt
 exponent-requires : tie.Need-exponent-requires
 exponent-requires c κs = bits-range (between _ (subst T (sym (c .good .0 .1)) tt) (c .pre))
 
-add-result : tie.Need-add-result
-add-result c = search needs
-
 sub-result : tie.Need-sub-result
 sub-result c = few-before (between _ (subst T (sym (c .before .good .0 .1)) tt) (c .before .pre)) _ (c .exponent .ensures)
-
-shr-result : tie.Need-shr-result
-shr-result c = search needs
 
 returns : tie.Need-returns
 returns c = whole-is (between _ (subst T (sym (c .before .good .0 .1)) tt) (c .before .pre)) _ (c .exponent .ensures)
@@ -29,4 +23,4 @@ returns c = whole-is (between _ (subst T (sym (c .before .good .0 .1)) tt) (c .b
 pub digits-before-point-spec : {M : Type 1} → statement M
 digits-before-point-spec =
     tie.close
-    (tie.spec float-to-bits-bits exponent-requires add-result sub-result shr-result returns)
+    (tie.spec float-to-bits-bits exponent-requires (λ c. search needs) sub-result (λ c. search needs) returns)

@@ -18,11 +18,8 @@ digits-before-point-requires c κs =
     let number = numbers one32 x (c .if2 .taken) .1 in
     (c .if2 .taken, not-le-lt (f32 0x4800_0000) x refl number (c .before .if1 .left))
 
-returns-2 : tie.Need-returns-2
-returns-2 c = search needs
-
 returns-3 : tie.Need-returns-3
 returns-3 c = below _ (c .if2 .left)
 
 pub whole-part-spec : {M : Type 1} → statement M
-whole-part-spec = tie.close (tie.spec returns digits-before-point-requires returns-2 returns-3)
+whole-part-spec = tie.close (tie.spec returns digits-before-point-requires (λ c. search needs) returns-3)

@@ -6,9 +6,6 @@ use Rattle.floats.proofs.Choices.{chosen, other}
 use Rattle.words.proofs.phase_beside.Statement.{statement}
 use Rattle.words.proofs.phase_beside.Tie as tie
 
-from-bits-requires : tie.Need-from-bits-requires
-from-bits-requires c κs = search needs
-
 returns : tie.Need-returns
 returns c = chosen _ _ _ (lt-ltb 1 _ (c .if1 .taken))
 
@@ -16,4 +13,4 @@ returns-2 : tie.Need-returns-2
 returns-2 c = c .from-bits .ensures ∙ other _ _ _ (le-ltb 1 _ (c .before .if1 .left))
 
 pub phase-beside-spec : {M : Type 1} → statement M
-phase-beside-spec = tie.close (tie.spec from-bits-requires returns returns-2)
+phase-beside-spec = tie.close (tie.spec (λ c κs. search needs) returns returns-2)

@@ -4,14 +4,8 @@ use borrow.Author.Needs.{needs}
 use Rattle.words.proofs.result_of.Statement.{statement}
 use Rattle.words.proofs.result_of.Tie as tie
 
-number-requires : tie.Need-number-requires
-number-requires c κs = search needs
-
-index-requires : tie.Need-index-requires
-index-requires c κs = search needs
-
 returns : tie.Need-returns
 returns c = rw (c .before .number .ensures, c .index .ensures) refl
 
 pub result-of-spec : {M : Type 1} → statement M
-result-of-spec = tie.close (tie.spec number-requires index-requires returns)
+result-of-spec = tie.close (tie.spec (λ c κs. search needs) (λ c κs. search needs) returns)

@@ -5,17 +5,8 @@ use borrow.Author.Needs.{needs}
 use Rattle.bank.proofs.kinds.square.Statement.{statement}
 use Rattle.bank.proofs.kinds.square.Tie as tie
 
-render-requires : tie.Need-render-requires
-render-requires c κs = search needs
-
-told-requires : tie.Need-told-requires
-told-requires c κs = search needs
-
-same-length : tie.Need-same-length
-same-length c = search needs
-
 returns : tie.Need-returns
 returns c = let k = c .before .before .before .before in rw (c .told .ensures) (ap (superSquarePlayed (k .before .before .before .before .args .bank)) (k .render .ensures))
 
 pub square-spec : {M : Type 1} → statement M
-square-spec = tie.close (tie.spec render-requires told-requires same-length returns)
+square-spec = tie.close (tie.spec (λ c κs. search needs) (λ c κs. search needs) (λ c. search needs) returns)

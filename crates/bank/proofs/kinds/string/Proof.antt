@@ -5,21 +5,9 @@ use borrow.Author.Needs.{needs}
 use Rattle.bank.proofs.kinds.string.Statement.{statement}
 use Rattle.bank.proofs.kinds.string.Tie as tie
 
-slice-aggregate-render : tie.Need-slice-aggregate-render
-slice-aggregate-render c = search needs
-
-render-requires : tie.Need-render-requires
-render-requires c κs = search needs
-
-told-requires : tie.Need-told-requires
-told-requires c κs = search needs
-
-same-length : tie.Need-same-length
-same-length c = search needs
-
 returns : tie.Need-returns
 returns c = let k = c .before .before .before .before in rw (c .told .ensures) (ap (stringPlayed (k .before .before .before .before .before .args .bank)) (k .render .ensures))
 
 pub string-spec : {M : Type 1} → statement M
 string-spec =
-    tie.close (tie.spec slice-aggregate-render render-requires told-requires same-length returns)
+    tie.close (tie.spec (λ c. search needs) (λ c κs. search needs) (λ c κs. search needs) (λ c. search needs) returns)

@@ -4,11 +4,8 @@ use borrow.Author.Needs.{needs}
 use Rattle.jobs.proofs.unused.fine.Statement.{statement}
 use Rattle.jobs.proofs.unused.fine.Tie as tie
 
-used-requires : tie.Need-used-requires
-used-requires c κs = search needs
-
 returns : tie.Need-returns
 returns c = rw (c .used .ensures) refl
 
 pub fine-spec : {M : Type 1} → statement M
-fine-spec = tie.close (tie.spec used-requires returns)
+fine-spec = tie.close (tie.spec (λ c κs. search needs) returns)

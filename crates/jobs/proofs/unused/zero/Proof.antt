@@ -18,22 +18,10 @@ abbrev μ-loop : tie.MeasureT-loop
 loop-holds : tie.Need-loop-holds Inv-loop μ-loop
 loop-holds c = refl
 
-shared-slice-read-fine : tie.Need-shared-slice-read-fine Inv-loop μ-loop
-shared-slice-read-fine c = search needs
-
-fine-requires : tie.Need-fine-requires Inv-loop μ-loop
-fine-requires c κs = search needs
-
 returns : tie.Need-returns Inv-loop μ-loop
 returns c =
     let f = c .before in
     sym (f .before .before .before .loop .inv ∙ unused-step _ _ _ (f .before .before .loop-test .taken) ∙ rw (sym (f .fine .ensures) ∙ not-true _ (c .if1 .taken)))
-
-add-i : tie.Need-add-i Inv-loop μ-loop
-add-i c = search needs
-
-loop-less : tie.Need-loop-less Inv-loop μ-loop
-loop-less c = search needs
 
 loop-again : tie.Need-loop-again Inv-loop μ-loop
 loop-again c =
@@ -50,10 +38,10 @@ zero-spec =
     Inv-loop
     μ-loop
     loop-holds
-    shared-slice-read-fine
-    fine-requires
+    (λ c. search needs)
+    (λ c κs. search needs)
     returns
-    add-i
-    loop-less
+    (λ c. search needs)
+    (λ c. search needs)
     loop-again
     returns-2)

@@ -5,15 +5,9 @@ use borrow.Author.Needs.{needs}
 use Rattle.jobs.proofs.words.float_at.Statement.{statement}
 use Rattle.jobs.proofs.words.float_at.Tie as tie
 
-word-at-requires : tie.Need-word-at-requires
-word-at-requires c κs = search needs
-
-from-bits-requires : tie.Need-from-bits-requires
-from-bits-requires c κs = search needs
-
 returns : tie.Need-returns
 unfolding floatAt
 returns c = rw (c .from-bits .ensures, c .before .word-at .ensures) refl
 
 pub float-at-spec : {M : Type 1} → statement M
-float-at-spec = tie.close (tie.spec word-at-requires from-bits-requires returns)
+float-at-spec = tie.close (tie.spec (λ c κs. search needs) (λ c κs. search needs) returns)

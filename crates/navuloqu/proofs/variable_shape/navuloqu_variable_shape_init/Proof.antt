@@ -3,11 +3,8 @@ use borrow.Author.Needs.{needs}
 use Rattle.navuloqu.proofs.variable_shape.navuloqu_variable_shape_init.Statement.{statement}
 use Rattle.navuloqu.proofs.variable_shape.navuloqu_variable_shape_init.Tie as tie
 
-init-requires : tie.Need-init-requires
-init-requires c κs = search needs
-
 returns : tie.Need-returns
 returns c = c .init .ensures
 
 pub navuloqu-variable-shape-init-spec : {M : Type 1} → statement M
-navuloqu-variable-shape-init-spec = tie.close (tie.spec init-requires returns)
+navuloqu-variable-shape-init-spec = tie.close (tie.spec (λ c κs. search needs) returns)

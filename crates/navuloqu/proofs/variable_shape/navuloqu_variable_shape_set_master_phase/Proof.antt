@@ -3,11 +3,8 @@ use borrow.Author.Needs.{needs}
 use Rattle.navuloqu.proofs.variable_shape.navuloqu_variable_shape_set_master_phase.Statement.{statement}
 use Rattle.navuloqu.proofs.variable_shape.navuloqu_variable_shape_set_master_phase.Tie as tie
 
-set-master-phase-requires : tie.Need-set-master-phase-requires
-set-master-phase-requires c κs = search needs
-
 returns : tie.Need-returns
 returns c = c .set-master-phase .ensures
 
 pub navuloqu-variable-shape-set-master-phase-spec : {M : Type 1} → statement M
-navuloqu-variable-shape-set-master-phase-spec = tie.close (tie.spec set-master-phase-requires returns)
+navuloqu-variable-shape-set-master-phase-spec = tie.close (tie.spec (λ c κs. search needs) returns)

@@ -7,14 +7,8 @@ use borrow.Author.Needs.{needs}
 use Rattle.nes_triangle.proofs.depth.of_bits.Statement.{statement}
 use Rattle.nes_triangle.proofs.depth.of_bits.Tie as tie
 
-steps-requires : tie.Need-steps-requires
-steps-requires c κs = search needs
-
 top-requires : tie.Need-top-requires
 top-requires c κs = rw (c .steps .ensures) (pow-pos _)
-
-nearest-u32-to-f32-requires : tie.Need-nearest-u32-to-f32-requires
-nearest-u32-to-f32-requires c κs = search needs
 
 scale-requires : tie.Need-scale-requires
 scale-requires c κs =
@@ -28,4 +22,4 @@ returns c = rw (c .scale .ensures, c .before .nearest-u32-to-f32 .ensures, c .be
 pub of-bits-spec : {M : Type 1} → statement M
 of-bits-spec =
     tie.close
-    (tie.spec steps-requires top-requires nearest-u32-to-f32-requires scale-requires returns)
+    (tie.spec (λ c κs. search needs) top-requires (λ c κs. search needs) scale-requires returns)

@@ -4,12 +4,6 @@ use borrow.Author.Needs.{needs}
 use Rattle.nes_triangle.proofs.depth.scale.Statement.{statement}
 use Rattle.nes_triangle.proofs.depth.scale.Tie as tie
 
-sub-nearest-u32-to-f32 : tie.Need-sub-nearest-u32-to-f32
-sub-nearest-u32-to-f32 c = search needs
-
-nearest-u32-to-f32-requires : tie.Need-nearest-u32-to-f32-requires
-nearest-u32-to-f32-requires c κs = search needs
-
 returns : tie.Need-returns
 returns c = rw (ne-eqb _ 2 (c .before .if1 .taken), c .nearest-u32-to-f32 .ensures)
 
@@ -18,4 +12,4 @@ returns-2 c = rw (eq-eqb _ 2 (c .if1 .left))
 
 pub scale-spec : {M : Type 1} → statement M
 scale-spec =
-    tie.close (tie.spec sub-nearest-u32-to-f32 nearest-u32-to-f32-requires returns returns-2)
+    tie.close (tie.spec (λ c. search needs) (λ c κs. search needs) returns returns-2)

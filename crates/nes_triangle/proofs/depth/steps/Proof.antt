@@ -4,11 +4,8 @@ use borrow.Author.Needs.{needs}
 use Rattle.nes_triangle.proofs.depth.steps.Statement.{statement}
 use Rattle.nes_triangle.proofs.depth.steps.Tie as tie
 
-shl-result : tie.Need-shl-result
-shl-result c = search needs
-
 returns : tie.Need-returns
 returns c = shifted _ (c .pre)
 
 pub steps-spec : {M : Type 1} → statement M
-steps-spec = tie.close (tie.spec shl-result returns)
+steps-spec = tie.close (tie.spec (λ c. search needs) returns)

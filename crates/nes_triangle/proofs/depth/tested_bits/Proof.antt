@@ -6,9 +6,6 @@ use borrow.Author.Needs.{needs}
 use Rattle.nes_triangle.proofs.depth.tested_bits.Statement.{statement}
 use Rattle.nes_triangle.proofs.depth.tested_bits.Tie as tie
 
-bits-in-requires : tie.Need-bits-in-requires
-bits-in-requires c κs = search needs
-
 returns : tie.Need-returns
 returns c = let h = sym (c .before .bits-in .ensures) ∙ c .if1 .taken in (rw h, tested-few _ h)
 
@@ -16,4 +13,4 @@ returns-2 : tie.Need-returns-2
 returns-2 c = let h = sym (c .before .bits-in .ensures) ∙ c .if1 .left in (rw h, omega arith)
 
 pub tested-bits-spec : {M : Type 1} → statement M
-tested-bits-spec = tie.close (tie.spec bits-in-requires returns returns-2)
+tested-bits-spec = tie.close (tie.spec (λ c κs. search needs) returns returns-2)

@@ -5,17 +5,8 @@ use borrow.Author.Needs.{needs}
 use Rattle.nes_triangle.proofs.sample.advance.Statement.{statement}
 use Rattle.nes_triangle.proofs.sample.advance.Tie as tie
 
-whole-part-requires : tie.Need-whole-part-requires
-whole-part-requires c κs = search needs
-
-on-step-requires : tie.Need-on-step-requires
-on-step-requires c κs = search needs
-
 wrap-step-requires : tie.Need-wrap-step-requires
 wrap-step-requires c κs = λ h. wrap-enough (not (c .before .on-step .result)) _ _ h
-
-wrap-phase-requires : tie.Need-wrap-phase-requires
-wrap-phase-requires c κs = search needs
 
 returns : tie.Need-returns
 returns c =
@@ -27,4 +18,4 @@ returns c =
 pub advance-spec : {M : Type 1} → statement M
 advance-spec =
     tie.close
-    (tie.spec whole-part-requires on-step-requires wrap-step-requires wrap-phase-requires returns)
+    (tie.spec (λ c κs. search needs) (λ c κs. search needs) wrap-step-requires (λ c κs. search needs) returns)

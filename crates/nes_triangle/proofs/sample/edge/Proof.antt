@@ -4,15 +4,6 @@ use borrow.Author.Needs.{needs}
 use Rattle.nes_triangle.proofs.sample.edge.Statement.{statement}
 use Rattle.nes_triangle.proofs.sample.edge.Tie as tie
 
-nearest-u32-to-f32-requires : tie.Need-nearest-u32-to-f32-requires
-nearest-u32-to-f32-requires c κs = search needs
-
-this-blep-sample-requires : tie.Need-this-blep-sample-requires
-this-blep-sample-requires c κs = search needs
-
-next-blep-sample-requires : tie.Need-next-blep-sample-requires
-next-blep-sample-requires c κs = search needs
-
 returns : tie.Need-returns
 unfolding edgeOf
 returns c =
@@ -29,8 +20,8 @@ pub edge-spec : {M : Type 1} → statement M
 edge-spec =
     tie.close
     (tie.spec
-    nearest-u32-to-f32-requires
-    this-blep-sample-requires
-    next-blep-sample-requires
+    (λ c κs. search needs)
+    (λ c κs. search needs)
+    (λ c κs. search needs)
     returns
     returns-2)

@@ -4,12 +4,9 @@ use borrow.Author.Needs.{needs}
 use Rattle.nes_triangle.proofs.sample.fade.Statement.{statement}
 use Rattle.nes_triangle.proofs.sample.fade.Tie as tie
 
-clamp-requires : tie.Need-clamp-requires
-clamp-requires c κs = search needs
-
 returns : tie.Need-returns
 unfolding gainsOf
 returns c = rw (c .before .clamp .ensures)
 
 pub fade-spec : {M : Type 1} → statement M
-fade-spec = tie.close (tie.spec clamp-requires returns)
+fade-spec = tie.close (tie.spec (λ c κs. search needs) returns)

@@ -9,23 +9,8 @@ use borrow.Author.Needs.{needs}
 use Rattle.nes_triangle.proofs.sample.finish.Statement.{statement}
 use Rattle.nes_triangle.proofs.sample.finish.Tie as tie
 
-nes-level-requires : tie.Need-nes-level-requires
-nes-level-requires c κs = search needs
-
-nearest-u32-to-f32-requires : tie.Need-nearest-u32-to-f32-requires
-nearest-u32-to-f32-requires c κs = search needs
-
-tri-level-requires : tie.Need-tri-level-requires
-tri-level-requires c κs = search needs
-
 cast-t14 : tie.Need-cast-t14
 cast-t14 c = record { sfits = omega (arith, c .before .before .before .before .before .before .before .pre .1) }
-
-one-if-requires : tie.Need-one-if-requires
-one-if-requires c κs = search needs
-
-one-if-requires-2 : tie.Need-one-if-requires-2
-one-if-requires-2 c κs = search needs
 
 returns : tie.Need-returns
 unfolding finish
@@ -41,10 +26,10 @@ pub finish-spec : {M : Type 1} → statement M
 finish-spec =
     tie.close
     (tie.spec
-    nes-level-requires
-    nearest-u32-to-f32-requires
-    tri-level-requires
+    (λ c κs. search needs)
+    (λ c κs. search needs)
+    (λ c κs. search needs)
     cast-t14
-    one-if-requires
-    one-if-requires-2
+    (λ c κs. search needs)
+    (λ c κs. search needs)
     returns)

@@ -4,11 +4,8 @@ use borrow.Author.Needs.{needs}
 use Rattle.nes_triangle.proofs.sample.on_step.Statement.{statement}
 use Rattle.nes_triangle.proofs.sample.on_step.Tie as tie
 
-cast-result : tie.Need-cast-result
-cast-result c = search needs
-
 returns : tie.Need-returns
 returns c = is-whole (c .before .before .args .whole) (c .before .before .args .s .step) (c .before .before .pre) (search needs)
 
 pub on-step-spec : {M : Type 1} → statement M
-on-step-spec = tie.close (tie.spec cast-result returns)
+on-step-spec = tie.close (tie.spec (λ c. search needs) returns)

@@ -4,12 +4,6 @@ use borrow.Author.Needs.{needs}
 use Rattle.nes_triangle.proofs.sample.peak.Statement.{statement}
 use Rattle.nes_triangle.proofs.sample.peak.Tie as tie
 
-this-integrated-blep-sample-requires : tie.Need-this-integrated-blep-sample-requires
-this-integrated-blep-sample-requires c κs = search needs
-
-next-integrated-blep-sample-requires : tie.Need-next-integrated-blep-sample-requires
-next-integrated-blep-sample-requires c κs = search needs
-
 returns : tie.Need-returns
 unfolding peakOf
 returns c =
@@ -25,7 +19,7 @@ pub peak-spec : {M : Type 1} → statement M
 peak-spec =
     tie.close
     (tie.spec
-    this-integrated-blep-sample-requires
-    next-integrated-blep-sample-requires
+    (λ c κs. search needs)
+    (λ c κs. search needs)
     returns
     returns-2)

@@ -6,15 +6,6 @@ use borrow.Author.Needs.{needs}
 use Rattle.nes_triangle.proofs.sample.sample.Statement.{statement}
 use Rattle.nes_triangle.proofs.sample.sample.Tie as tie
 
-advance-requires : tie.Need-advance-requires
-advance-requires c κs = search needs
-
-fade-requires : tie.Need-fade-requires
-fade-requires c κs = search needs
-
-sound-requires : tie.Need-sound-requires
-sound-requires c κs = search needs
-
 finish-requires : tie.Need-finish-requires
 finish-requires c κs = finishable _ _ _ (c .before .before .before .pre) _ (c .before .before .advance .ensures)
 
@@ -24,4 +15,4 @@ returns c = rw (c .finish .ensures, c .before .sound .ensures, c .before .before
 
 pub sample-spec : {M : Type 1} → statement M
 sample-spec =
-    tie.close (tie.spec advance-requires fade-requires sound-requires finish-requires returns)
+    tie.close (tie.spec (λ c κs. search needs) (λ c κs. search needs) (λ c κs. search needs) finish-requires returns)

@@ -6,9 +6,6 @@ use borrow.Author.Needs.{needs}
 use Rattle.nes_triangle.proofs.sample.step_sign.Statement.{statement}
 use Rattle.nes_triangle.proofs.sample.step_sign.Tie as tie
 
-direction-requires : tie.Need-direction-requires
-direction-requires c κs = search needs
-
 returns : tie.Need-returns
 returns c = rw (eq-eqb _ 2 (c .if1 .taken)) (ap neg (c .before .direction .ensures))
 
@@ -19,4 +16,4 @@ returns-3 : tie.Need-returns-3
 returns-3 c = rw (ne-eqb _ 2 (c .before .if1 .left), c .if2 .left) (c .before .before .direction .ensures)
 
 pub step-sign-spec : {M : Type 1} → statement M
-step-sign-spec = tie.close (tie.spec direction-requires returns returns-2 returns-3)
+step-sign-spec = tie.close (tie.spec (λ c κs. search needs) returns returns-2 returns-3)

@@ -3,11 +3,8 @@ use borrow.Author.Needs.{needs}
 use Rattle.parameter_interpolator.proofs.ParameterInterpolator.new.Statement.{statement}
 use Rattle.parameter_interpolator.proofs.ParameterInterpolator.new.Tie as tie
 
-nearest-u32-to-f32-requires : tie.Need-nearest-u32-to-f32-requires
-nearest-u32-to-f32-requires c κs = search needs
-
 returns : tie.Need-returns
 returns c = rw (c .nearest-u32-to-f32 .ensures)
 
 pub new-spec : {M : Type 1} → statement M
-new-spec = tie.close (tie.spec nearest-u32-to-f32-requires returns)
+new-spec = tie.close (tie.spec (λ c κs. search needs) returns)

@@ -5,9 +5,6 @@ use Rattle.floats.proofs.Choices.{chosen, other}
 use Rattle.ranges.proofs.targets.clamp_width.Statement.{statement}
 use Rattle.ranges.proofs.targets.clamp_width.Tie as tie
 
-clamp-requires : tie.Need-clamp-requires
-clamp-requires c κs = search needs
-
 returns : tie.Need-returns
 returns c = chosen _ _ _ (c .if1 .taken)
 
@@ -15,4 +12,4 @@ returns-2 : tie.Need-returns-2
 returns-2 c = c .clamp .ensures ∙ other _ _ _ (c .before .if1 .left)
 
 pub clamp-width-spec : {M : Type 1} → statement M
-clamp-width-spec = tie.close (tie.spec clamp-requires returns returns-2)
+clamp-width-spec = tie.close (tie.spec (λ c κs. search needs) returns returns-2)

@@ -6,9 +6,6 @@ use Rattle.render.proofs.Laying.{joins}
 use Rattle.render.proofs.text.line.Statement.{statement}
 use Rattle.render.proofs.text.line.Tie as tie
 
-number-requires : tie.Need-number-requires
-number-requires c κs = search needs
-
 number-requires-2 : tie.Need-number-requires-2
 number-requires-2 c κs = omega arith
 
@@ -27,9 +24,6 @@ number-requires-6 c κs = omega arith
 number-requires-7 : tie.Need-number-requires-7
 number-requires-7 c κs = omega arith
 
-same-length : tie.Need-same-length
-same-length c = search needs
-
 returns : tie.Need-returns
 unfolding lineOf
 returns c =
@@ -46,12 +40,12 @@ pub line-spec : {M : Type 1} → statement M
 line-spec =
     tie.close
     (tie.spec
-    number-requires
+    (λ c κs. search needs)
     number-requires-2
     number-requires-3
     number-requires-4
     number-requires-5
     number-requires-6
     number-requires-7
-    same-length
+    (λ c. search needs)
     returns)

@@ -12,15 +12,6 @@ use Rattle.render.proofs.text.number.Tie as tie
 text : (c : tie.After-decimal) → take (c .decimal .result) (c .decimal .last .1 .0) ≡ decimalOf (c .before .before .before .args .n)
 text c = c .decimal .ensures .1 .1 ∙ decimal-text _ _ (omega arith) (c .decimal .ensures .1 .0)
 
-decimal-requires : tie.Need-decimal-requires
-decimal-requires c κs = search needs
-
-array-share-prefix-digits : tie.Need-array-share-prefix-digits
-array-share-prefix-digits c = search needs
-
-slice-aggregate-append : tie.Need-slice-aggregate-append
-slice-aggregate-append c = search needs
-
 append-requires : tie.Need-append-requires
 append-requires c κs = omega (arith, ap length (text (c .before .before)), decimal-long (c .before .before .before .before .before .args .n))
 
@@ -28,12 +19,6 @@ slice-write-out : tie.Need-slice-write-out
 slice-write-out c =
     let a = c .before .before in
     number-room _ _ _ 0 _ _ _ (a .append .ensures) (text (a .before .before .before)) (a .before .before .before .before .before .before .pre)
-
-add-result : tie.Need-add-result
-add-result c = search needs
-
-same-length : tie.Need-same-length
-same-length c = search needs
 
 returns : tie.Need-returns
 returns c =
@@ -44,11 +29,11 @@ pub number-spec : {M : Type 1} → statement M
 number-spec =
     tie.close
     (tie.spec
-    decimal-requires
-    array-share-prefix-digits
-    slice-aggregate-append
+    (λ c κs. search needs)
+    (λ c. search needs)
+    (λ c. search needs)
     append-requires
     slice-write-out
-    add-result
-    same-length
+    (λ c. search needs)
+    (λ c. search needs)
     returns)

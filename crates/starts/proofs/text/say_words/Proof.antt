@@ -24,9 +24,6 @@ shared-slice-read-hexadecimal c = omega arith
 hexadecimal-requires : tie.Need-hexadecimal-requires Inv-loop μ-loop
 hexadecimal-requires c κs = tt
 
-slice-aggregate-say : tie.Need-slice-aggregate-say Inv-loop μ-loop
-slice-aggregate-say c = search needs
-
 say-requires : tie.Need-say-requires Inv-loop μ-loop
 say-requires c κs = tt
 
@@ -52,7 +49,7 @@ say-words-spec =
     mul-hexadecimal
     shared-slice-read-hexadecimal
     hexadecimal-requires
-    slice-aggregate-say
+    (λ c. search needs)
     say-requires
     add-i
     loop-less

@@ -5,15 +5,6 @@ use borrow.Author.Needs.{needs}
 use Rattle.string_synth.proofs.sample.blep.Statement.{statement}
 use Rattle.string_synth.proofs.sample.blep.Tie as tie
 
-nearest-u32-to-f32-requires : tie.Need-nearest-u32-to-f32-requires
-nearest-u32-to-f32-requires c κs = search needs
-
-this-blep-sample-requires : tie.Need-this-blep-sample-requires
-this-blep-sample-requires c κs = search needs
-
-next-blep-sample-requires : tie.Need-next-blep-sample-requires
-next-blep-sample-requires c κs = search needs
-
 returns : tie.Need-returns
 unfolding blepOf
 returns c =
@@ -26,7 +17,7 @@ pub blep-spec : {M : Type 1} → statement M
 blep-spec =
     tie.close
     (tie.spec
-    nearest-u32-to-f32-requires
-    this-blep-sample-requires
-    next-blep-sample-requires
+    (λ c κs. search needs)
+    (λ c κs. search needs)
+    (λ c κs. search needs)
     returns)

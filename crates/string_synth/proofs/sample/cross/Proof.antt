@@ -5,21 +5,6 @@ use borrow.Author.Needs.{needs}
 use Rattle.string_synth.proofs.sample.cross.Statement.{statement}
 use Rattle.string_synth.proofs.sample.cross.Tie as tie
 
-wrap-segment-requires : tie.Need-wrap-segment-requires
-wrap-segment-requires c κs = search needs
-
-wrap-phase-requires : tie.Need-wrap-phase-requires
-wrap-phase-requires c κs = search needs
-
-one-if-requires : tie.Need-one-if-requires
-one-if-requires c κs = search needs
-
-discontinuity-requires : tie.Need-discontinuity-requires
-discontinuity-requires c κs = search needs
-
-soften-requires : tie.Need-soften-requires
-soften-requires c κs = search needs
-
 returns : tie.Need-returns
 unfolding crossed
 returns c =
@@ -32,9 +17,9 @@ pub cross-spec : {M : Type 1} → statement M
 cross-spec =
     tie.close
     (tie.spec
-    wrap-segment-requires
-    wrap-phase-requires
-    one-if-requires
-    discontinuity-requires
-    soften-requires
+    (λ c κs. search needs)
+    (λ c κs. search needs)
+    (λ c κs. search needs)
+    (λ c κs. search needs)
+    (λ c κs. search needs)
     returns)

@@ -5,19 +5,10 @@ use borrow.Author.Needs.{needs}
 use Rattle.string_synth.proofs.sample.discontinuity.Statement.{statement}
 use Rattle.string_synth.proofs.sample.discontinuity.Tie as tie
 
-less-if-requires : tie.Need-less-if-requires
-less-if-requires c κs = search needs
-
-less-if-requires-2 : tie.Need-less-if-requires-2
-less-if-requires-2 c κs = search needs
-
-less-if-requires-3 : tie.Need-less-if-requires-3
-less-if-requires-3 c κs = search needs
-
 returns : tie.Need-returns
 unfolding discontinuityOf
 returns c = rw (c .before .less-if3 .ensures, c .before .before .less-if2 .ensures, c .before .before .before .less-if .ensures) refl
 
 pub discontinuity-spec : {M : Type 1} → statement M
 discontinuity-spec =
-    tie.close (tie.spec less-if-requires less-if-requires-2 less-if-requires-3 returns)
+    tie.close (tie.spec (λ c κs. search needs) (λ c κs. search needs) (λ c κs. search needs) returns)

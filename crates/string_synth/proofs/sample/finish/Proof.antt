@@ -9,15 +9,9 @@ use borrow.Author.Needs.{needs}
 use Rattle.string_synth.proofs.sample.finish.Statement.{statement}
 use Rattle.string_synth.proofs.sample.finish.Tie as tie
 
-next-sample-requires : tie.Need-next-sample-requires
-next-sample-requires c κs = search needs
-
-cast-t5 : tie.Need-cast-t5
-cast-t5 c = search needs
-
 returns : tie.Need-returns
 unfolding finish
 returns c = rw (c .before .before .next-sample .ensures, toZ-pos w32 (c .before .before .before .args .e .segment) (lt-of-le-of-lt (c .before .before .before .pre) (lit< tt))) refl
 
 pub finish-spec : {M : Type 1} → statement M
-finish-spec = tie.close (tie.spec next-sample-requires cast-t5 returns)
+finish-spec = tie.close (tie.spec (λ c κs. search needs) (λ c. search needs) returns)

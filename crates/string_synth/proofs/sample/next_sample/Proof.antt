@@ -5,15 +5,6 @@ use borrow.Author.Needs.{needs}
 use Rattle.string_synth.proofs.sample.next_sample.Statement.{statement}
 use Rattle.string_synth.proofs.sample.next_sample.Tie as tie
 
-nearest-u32-to-f32-requires : tie.Need-nearest-u32-to-f32-requires
-nearest-u32-to-f32-requires c κs = search needs
-
-nearest-u32-to-f32-requires-2 : tie.Need-nearest-u32-to-f32-requires-2
-nearest-u32-to-f32-requires-2 c κs = search needs
-
-nearest-u32-to-f32-requires-3 : tie.Need-nearest-u32-to-f32-requires-3
-nearest-u32-to-f32-requires-3 c κs = search needs
-
 returns : tie.Need-returns
 unfolding nextSample
 returns c =
@@ -25,7 +16,7 @@ pub next-sample-spec : {M : Type 1} → statement M
 next-sample-spec =
     tie.close
     (tie.spec
-    nearest-u32-to-f32-requires
-    nearest-u32-to-f32-requires-2
-    nearest-u32-to-f32-requires-3
+    (λ c κs. search needs)
+    (λ c κs. search needs)
+    (λ c κs. search needs)
     returns)

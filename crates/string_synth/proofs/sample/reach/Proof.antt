@@ -4,18 +4,6 @@ use borrow.Author.Needs.{needs}
 use Rattle.string_synth.proofs.sample.reach.Statement.{statement}
 use Rattle.string_synth.proofs.sample.reach.Tie as tie
 
-whole-part-requires : tie.Need-whole-part-requires
-whole-part-requires c κs = search needs
-
-in-segment-requires : tie.Need-in-segment-requires
-in-segment-requires c κs = search needs
-
-stay-requires : tie.Need-stay-requires
-stay-requires c κs = search needs
-
-cross-requires : tie.Need-cross-requires
-cross-requires c κs = search needs
-
 returns : tie.Need-returns
 returns c =
     let t = c .before .before in
@@ -30,9 +18,9 @@ pub reach-spec : {M : Type 1} → statement M
 reach-spec =
     tie.close
     (tie.spec
-    whole-part-requires
-    in-segment-requires
-    stay-requires
-    cross-requires
+    (λ c κs. search needs)
+    (λ c κs. search needs)
+    (λ c κs. search needs)
+    (λ c κs. search needs)
     returns
     returns-2)

@@ -6,9 +6,6 @@ use borrow.Author.Needs.{needs}
 use Rattle.string_synth.proofs.sample.sample.Statement.{statement}
 use Rattle.string_synth.proofs.sample.sample.Tie as tie
 
-reach-requires : tie.Need-reach-requires
-reach-requires c κs = search needs
-
 finish-requires : tie.Need-finish-requires
 finish-requires c κs = rw (c .reach .ensures) (reached-small _ _)
 
@@ -17,4 +14,4 @@ unfolding sampleOf
 returns c = rw (c .finish .ensures, c .before .reach .ensures) refl
 
 pub sample-spec : {M : Type 1} → statement M
-sample-spec = tie.close (tie.spec reach-requires finish-requires returns)
+sample-spec = tie.close (tie.spec (λ c κs. search needs) finish-requires returns)

@@ -4,9 +4,6 @@ use borrow.Author.Needs.{needs}
 use Rattle.string_synth.proofs.sample.soften.Statement.{statement}
 use Rattle.string_synth.proofs.sample.soften.Tie as tie
 
-blep-requires : tie.Need-blep-requires
-blep-requires c κs = search needs
-
 returns : tie.Need-returns
 unfolding softened
 returns c = rw (c .before .if1 .taken) (c .blep .ensures)
@@ -16,4 +13,4 @@ unfolding softened
 returns-2 c = rw (c .if1 .left)
 
 pub soften-spec : {M : Type 1} → statement M
-soften-spec = tie.close (tie.spec blep-requires returns returns-2)
+soften-spec = tie.close (tie.spec (λ c κs. search needs) returns returns-2)

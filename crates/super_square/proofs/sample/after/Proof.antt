@@ -3,11 +3,8 @@ use borrow.Author.Needs.{needs}
 use Rattle.super_square.proofs.sample.after.Statement.{statement}
 use Rattle.super_square.proofs.sample.after.Tie as tie
 
-level-requires : tie.Need-level-requires
-level-requires c κs = search needs
-
 returns : tie.Need-returns
 returns c = rw (c .before .level .ensures)
 
 pub after-spec : {M : Type 1} → statement M
-after-spec = tie.close (tie.spec level-requires returns)
+after-spec = tie.close (tie.spec (λ c κs. search needs) returns)

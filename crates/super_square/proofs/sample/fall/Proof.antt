@@ -5,18 +5,9 @@ use borrow.Author.Needs.{needs}
 use Rattle.super_square.proofs.sample.fall.Statement.{statement}
 use Rattle.super_square.proofs.sample.fall.Tie as tie
 
-this-blep-sample-requires : tie.Need-this-blep-sample-requires
-this-blep-sample-requires c κs = search needs
-
-next-blep-sample-requires : tie.Need-next-blep-sample-requires
-next-blep-sample-requires c κs = search needs
-
-add-t9 : tie.Need-add-t9
-add-t9 c = search needs
-
 returns : tie.Need-returns
 unfolding fallOf
 returns c = rw (c .before .before .before .before .this-blep-sample .ensures, c .before .before .next-blep-sample .ensures) refl
 
 pub fall-spec : {M : Type 1} → statement M
-fall-spec = tie.close (tie.spec this-blep-sample-requires next-blep-sample-requires add-t9 returns)
+fall-spec = tie.close (tie.spec (λ c κs. search needs) (λ c κs. search needs) (λ c. search needs) returns)

@@ -6,21 +6,12 @@ use borrow.Author.Needs.{needs}
 use Rattle.super_square.proofs.sample.plain_sample.Statement.{statement}
 use Rattle.super_square.proofs.sample.plain_sample.Tie as tie
 
-edge-requires : tie.Need-edge-requires
-edge-requires c κs = search needs
-
 cross-requires : tie.Need-cross-requires
 cross-requires c κs = subst Crossable (sym (c .edge .ensures)) (c .before .pre)
-
-after-requires : tie.Need-after-requires
-after-requires c κs = search needs
-
-finish-requires : tie.Need-finish-requires
-finish-requires c κs = search needs
 
 returns : tie.Need-returns
 unfolding plainSample
 returns c = rw (c .finish .ensures, c .before .after .ensures, c .before .before .cross .ensures, c .before .before .before .edge .ensures) refl
 
 pub plain-sample-spec : {M : Type 1} → statement M
-plain-sample-spec = tie.close (tie.spec edge-requires cross-requires after-requires finish-requires returns)
+plain-sample-spec = tie.close (tie.spec (λ c κs. search needs) cross-requires (λ c κs. search needs) (λ c κs. search needs) returns)

@@ -7,24 +7,6 @@ use borrow.Author.Needs.{needs}
 use Rattle.super_square.proofs.sample.reset_edge.Statement.{statement}
 use Rattle.super_square.proofs.sample.reset_edge.Tie as tie
 
-slave-at-reset-requires : tie.Need-slave-at-reset-requires
-slave-at-reset-requires c κs = search needs
-
-wrap-once-requires : tie.Need-wrap-once-requires
-wrap-once-requires c κs = search needs
-
-level-requires : tie.Need-level-requires
-level-requires c κs = search needs
-
-edge-requires : tie.Need-edge-requires
-edge-requires c κs = search needs
-
-cut-requires : tie.Need-cut-requires
-cut-requires c κs = search needs
-
-transition-during-reset-requires : tie.Need-transition-during-reset-requires
-transition-during-reset-requires c κs = search needs
-
 cross-requires : tie.Need-cross-requires
 cross-requires c κs =
     let b = c .before .before .before in
@@ -48,12 +30,12 @@ pub reset-edge-spec : {M : Type 1} → statement M
 reset-edge-spec =
     tie.close
     (tie.spec
-    slave-at-reset-requires
-    wrap-once-requires
-    level-requires
-    edge-requires
-    cut-requires
-    transition-during-reset-requires
+    (λ c κs. search needs)
+    (λ c κs. search needs)
+    (λ c κs. search needs)
+    (λ c κs. search needs)
+    (λ c κs. search needs)
+    (λ c κs. search needs)
     cross-requires
     returns
     returns-2)

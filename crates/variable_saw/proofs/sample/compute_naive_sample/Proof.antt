@@ -5,15 +5,9 @@ use borrow.Author.Needs.{needs}
 use Rattle.variable_saw.proofs.sample.compute_naive_sample.Statement.{statement}
 use Rattle.variable_saw.proofs.sample.compute_naive_sample.Tie as tie
 
-notch-saw-requires : tie.Need-notch-saw-requires
-notch-saw-requires c κs = search needs
-
-triangle-requires : tie.Need-triangle-requires
-triangle-requires c κs = search needs
-
 returns : tie.Need-returns
 unfolding naive
 returns c = rw (c .before .before .before .notch-saw .ensures, c .before .triangle .ensures) refl
 
 pub compute-naive-sample-spec : {M : Type 1} → statement M
-compute-naive-sample-spec = tie.close (tie.spec notch-saw-requires triangle-requires returns)
+compute-naive-sample-spec = tie.close (tie.spec (λ c κs. search needs) (λ c κs. search needs) returns)

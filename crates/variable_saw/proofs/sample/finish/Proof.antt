@@ -5,12 +5,9 @@ use borrow.Author.Needs.{needs}
 use Rattle.variable_saw.proofs.sample.finish.Statement.{statement}
 use Rattle.variable_saw.proofs.sample.finish.Tie as tie
 
-compute-naive-sample-requires : tie.Need-compute-naive-sample-requires
-compute-naive-sample-requires c κs = search needs
-
 returns : tie.Need-returns
 unfolding finish
 returns c = rw (c .before .before .compute-naive-sample .ensures) refl
 
 pub finish-spec : {M : Type 1} → statement M
-finish-spec = tie.close (tie.spec compute-naive-sample-requires returns)
+finish-spec = tie.close (tie.spec (λ c κs. search needs) returns)

@@ -4,27 +4,6 @@ use borrow.Author.Needs.{needs}
 use Rattle.variable_saw.proofs.sample.sample.Statement.{statement}
 use Rattle.variable_saw.proofs.sample.sample.Tie as tie
 
-new-requires : tie.Need-new-requires
-new-requires c κs = search needs
-
-edge-requires : tie.Need-edge-requires
-edge-requires c κs = search needs
-
-rise-requires : tie.Need-rise-requires
-rise-requires c κs = search needs
-
-finish-requires : tie.Need-finish-requires
-finish-requires c κs = search needs
-
-wrap-requires : tie.Need-wrap-requires
-wrap-requires c κs = search needs
-
-finish-requires-2 : tie.Need-finish-requires-2
-finish-requires-2 c κs = search needs
-
-finish-requires-3 : tie.Need-finish-requires-3
-finish-requires-3 c κs = search needs
-
 returns : tie.Need-returns
 returns c =
     let k = c .before .before in
@@ -49,13 +28,13 @@ pub sample-spec : {M : Type 1} → statement M
 sample-spec =
     tie.close
     (tie.spec
-    new-requires
-    edge-requires
-    rise-requires
-    finish-requires
-    wrap-requires
-    finish-requires-2
-    finish-requires-3
+    (λ c κs. search needs)
+    (λ c κs. search needs)
+    (λ c κs. search needs)
+    (λ c κs. search needs)
+    (λ c κs. search needs)
+    (λ c κs. search needs)
+    (λ c κs. search needs)
     returns
     returns-2
     returns-3)

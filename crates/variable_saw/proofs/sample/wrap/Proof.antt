@@ -5,24 +5,6 @@ use borrow.Author.Needs.{needs}
 use Rattle.variable_saw.proofs.sample.wrap.Statement.{statement}
 use Rattle.variable_saw.proofs.sample.wrap.Tie as tie
 
-triangle-step-requires : tie.Need-triangle-step-requires
-triangle-step-requires c κs = search needs
-
-this-blep-sample-requires : tie.Need-this-blep-sample-requires
-this-blep-sample-requires c κs = search needs
-
-this-integrated-blep-sample-requires : tie.Need-this-integrated-blep-sample-requires
-this-integrated-blep-sample-requires c κs = search needs
-
-next-blep-sample-requires : tie.Need-next-blep-sample-requires
-next-blep-sample-requires c κs = search needs
-
-next-integrated-blep-sample-requires : tie.Need-next-integrated-blep-sample-requires
-next-integrated-blep-sample-requires c κs = search needs
-
-one-if-requires : tie.Need-one-if-requires
-one-if-requires c κs = search needs
-
 returns : tie.Need-returns
 unfolding wrapOf
 returns c =
@@ -38,10 +20,10 @@ pub wrap-spec : {M : Type 1} → statement M
 wrap-spec =
     tie.close
     (tie.spec
-    triangle-step-requires
-    this-blep-sample-requires
-    this-integrated-blep-sample-requires
-    next-blep-sample-requires
-    next-integrated-blep-sample-requires
-    one-if-requires
+    (λ c κs. search needs)
+    (λ c κs. search needs)
+    (λ c κs. search needs)
+    (λ c κs. search needs)
+    (λ c κs. search needs)
+    (λ c κs. search needs)
     returns)

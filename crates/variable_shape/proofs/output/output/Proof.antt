@@ -3,12 +3,6 @@ use borrow.Author.Needs.{needs}
 use Rattle.variable_shape.proofs.output.output.Statement.{statement}
 use Rattle.variable_shape.proofs.output.output.Tie as tie
 
-phasor-requires : tie.Need-phasor-requires
-phasor-requires c κs = search needs
-
-window-requires : tie.Need-window-requires
-window-requires c κs = search needs
-
 returns : tie.Need-returns
 returns c = rw (c .before .before .before .if1 .taken, c .before .before .if2 .taken, c .before .phasor .ensures, c .window .ensures)
 
@@ -19,4 +13,4 @@ returns-3 : tie.Need-returns-3
 returns-3 c = rw (c .if1 .left)
 
 pub output-spec : {M : Type 1} → statement M
-output-spec = tie.close (tie.spec phasor-requires window-requires returns returns-2 returns-3)
+output-spec = tie.close (tie.spec (λ c κs. search needs) (λ c κs. search needs) returns returns-2 returns-3)

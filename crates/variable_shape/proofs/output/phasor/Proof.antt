@@ -3,11 +3,8 @@ use borrow.Author.Needs.{needs}
 use Rattle.variable_shape.proofs.output.phasor.Statement.{statement}
 use Rattle.variable_shape.proofs.output.phasor.Tie as tie
 
-abs-requires : tie.Need-abs-requires
-abs-requires c κs = search needs
-
 returns : tie.Need-returns
 returns c = rw (c .abs .ensures)
 
 pub phasor-spec : {M : Type 1} → statement M
-phasor-spec = tie.close (tie.spec abs-requires returns)
+phasor-spec = tie.close (tie.spec (λ c κs. search needs) returns)

@@ -3,11 +3,8 @@ use borrow.Author.Needs.{needs}
 use Rattle.variable_shape.proofs.sample.after.Statement.{statement}
 use Rattle.variable_shape.proofs.sample.after.Tie as tie
 
-naive-requires : tie.Need-naive-requires
-naive-requires c κs = search needs
-
 returns : tie.Need-returns
 returns c = rw (c .before .naive .ensures)
 
 pub after-spec : {M : Type 1} → statement M
-after-spec = tie.close (tie.spec naive-requires returns)
+after-spec = tie.close (tie.spec (λ c κs. search needs) returns)

@@ -5,24 +5,6 @@ use borrow.Author.Needs.{needs}
 use Rattle.variable_shape.proofs.sample.fall.Statement.{statement}
 use Rattle.variable_shape.proofs.sample.fall.Tie as tie
 
-triangle-step-requires : tie.Need-triangle-step-requires
-triangle-step-requires c κs = search needs
-
-this-blep-sample-requires : tie.Need-this-blep-sample-requires
-this-blep-sample-requires c κs = search needs
-
-this-integrated-blep-sample-requires : tie.Need-this-integrated-blep-sample-requires
-this-integrated-blep-sample-requires c κs = search needs
-
-next-blep-sample-requires : tie.Need-next-blep-sample-requires
-next-blep-sample-requires c κs = search needs
-
-next-integrated-blep-sample-requires : tie.Need-next-integrated-blep-sample-requires
-next-integrated-blep-sample-requires c κs = search needs
-
-add-t20 : tie.Need-add-t20
-add-t20 c = search needs
-
 returns : tie.Need-returns
 unfolding fallOf
 returns c =
@@ -35,10 +17,10 @@ pub fall-spec : {M : Type 1} → statement M
 fall-spec =
     tie.close
     (tie.spec
-    triangle-step-requires
-    this-blep-sample-requires
-    this-integrated-blep-sample-requires
-    next-blep-sample-requires
-    next-integrated-blep-sample-requires
-    add-t20
+    (λ c κs. search needs)
+    (λ c κs. search needs)
+    (λ c κs. search needs)
+    (λ c κs. search needs)
+    (λ c κs. search needs)
+    (λ c. search needs)
     returns)

@@ -5,12 +5,9 @@ use borrow.Author.Needs.{needs}
 use Rattle.variable_shape.proofs.sample.finish.Statement.{statement}
 use Rattle.variable_shape.proofs.sample.finish.Tie as tie
 
-output-requires : tie.Need-output-requires
-output-requires c κs = search needs
-
 returns : tie.Need-returns
 unfolding finish
 returns c = rw (c .output .ensures) refl
 
 pub finish-spec : {M : Type 1} → statement M
-finish-spec = tie.close (tie.spec output-requires returns)
+finish-spec = tie.close (tie.spec (λ c κs. search needs) returns)

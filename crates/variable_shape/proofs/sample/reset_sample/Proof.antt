@@ -6,20 +6,8 @@ use borrow.Author.Needs.{needs}
 use Rattle.variable_shape.proofs.sample.reset_sample.Statement.{statement}
 use Rattle.variable_shape.proofs.sample.reset_sample.Tie as tie
 
-at-requires : tie.Need-at-requires
-at-requires c κs = search needs
-
 reset-edge-requires : tie.Need-reset-edge-requires
 reset-edge-requires c κs = waveform-crossing _ _ _ _ (c .before .at .ensures) (c .before .before .pre)
-
-after-requires : tie.Need-after-requires
-after-requires c κs = search needs
-
-one-if-requires : tie.Need-one-if-requires
-one-if-requires c κs = search needs
-
-finish-requires : tie.Need-finish-requires
-finish-requires c κs = search needs
 
 returns : tie.Need-returns
 unfolding resetSample
@@ -29,9 +17,9 @@ pub reset-sample-spec : {M : Type 1} → statement M
 reset-sample-spec =
     tie.close
     (tie.spec
-    at-requires
+    (λ c κs. search needs)
     reset-edge-requires
-    after-requires
-    one-if-requires
-    finish-requires
+    (λ c κs. search needs)
+    (λ c κs. search needs)
+    (λ c κs. search needs)
     returns)

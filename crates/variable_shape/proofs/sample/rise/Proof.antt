@@ -5,27 +5,6 @@ use borrow.Author.Needs.{needs}
 use Rattle.variable_shape.proofs.sample.rise.Statement.{statement}
 use Rattle.variable_shape.proofs.sample.rise.Tie as tie
 
-rise-time-requires : tie.Need-rise-time-requires
-rise-time-requires c κs = search needs
-
-triangle-step-requires : tie.Need-triangle-step-requires
-triangle-step-requires c κs = search needs
-
-this-blep-sample-requires : tie.Need-this-blep-sample-requires
-this-blep-sample-requires c κs = search needs
-
-this-integrated-blep-sample-requires : tie.Need-this-integrated-blep-sample-requires
-this-integrated-blep-sample-requires c κs = search needs
-
-next-blep-sample-requires : tie.Need-next-blep-sample-requires
-next-blep-sample-requires c κs = search needs
-
-next-integrated-blep-sample-requires : tie.Need-next-integrated-blep-sample-requires
-next-integrated-blep-sample-requires c κs = search needs
-
-add-t17 : tie.Need-add-t17
-add-t17 c = search needs
-
 returns : tie.Need-returns
 unfolding riseOf
 returns c =
@@ -39,11 +18,11 @@ pub rise-spec : {M : Type 1} → statement M
 rise-spec =
     tie.close
     (tie.spec
-    rise-time-requires
-    triangle-step-requires
-    this-blep-sample-requires
-    this-integrated-blep-sample-requires
-    next-blep-sample-requires
-    next-integrated-blep-sample-requires
-    add-t17
+    (λ c κs. search needs)
+    (λ c κs. search needs)
+    (λ c κs. search needs)
+    (λ c κs. search needs)
+    (λ c κs. search needs)
+    (λ c κs. search needs)
+    (λ c. search needs)
     returns)

@@ -4,9 +4,6 @@ use borrow.Author.Needs.{needs}
 use Rattle.variable_shape.proofs.sample.sample.Statement.{statement}
 use Rattle.variable_shape.proofs.sample.sample.Tie as tie
 
-master-step-requires : tie.Need-master-step-requires
-master-step-requires c κs = search needs
-
 reset-sample-requires : tie.Need-reset-sample-requires
 reset-sample-requires c κs = edge-crossing (c .before .before .pre)
 
@@ -22,4 +19,4 @@ returns-2 c = sample-is _ _ _ _ _ _ (c .before .before .master-step .ensures) (r
 pub sample-spec : {M : Type 1} → statement M
 sample-spec =
     tie.close
-    (tie.spec master-step-requires reset-sample-requires plain-sample-requires returns returns-2)
+    (tie.spec (λ c κs. search needs) reset-sample-requires plain-sample-requires returns returns-2)

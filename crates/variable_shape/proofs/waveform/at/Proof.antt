@@ -5,15 +5,9 @@ use borrow.Author.Needs.{needs}
 use Rattle.variable_shape.proofs.waveform.at.Statement.{statement}
 use Rattle.variable_shape.proofs.waveform.at.Tie as tie
 
-max-requires : tie.Need-max-requires
-max-requires c κs = search needs
-
-max-requires-2 : tie.Need-max-requires-2
-max-requires-2 c κs = search needs
-
 returns : tie.Need-returns
 unfolding waveformOf
 returns c = rw (c .before .before .before .before .max .ensures, c .before .before .max2 .ensures) refl
 
 pub at-spec : {M : Type 1} → statement M
-at-spec = tie.close (tie.spec max-requires max-requires-2 returns)
+at-spec = tie.close (tie.spec (λ c κs. search needs) (λ c κs. search needs) returns)
