@@ -17,21 +17,21 @@ use Rattle.jobs.specs.declared.Settings.{Settings}
 use Rattle.jobs.specs.declared.Settings.the-variants.{VariableShape, VariableSaw, SuperSquare, NesTriangle, StringSynth}
 use Rattle.jobs.specs.declared.Asked.{Asked}
 use Rattle.jobs.specs.declared.Asked.the-variants.{BadRecord as Malformed, Play}
-use Rattle.states.specs.VariableShape as ShapeStart
+use Rattle.variable_shape.specs.State as ShapeStart
 use Rattle.variable_shape.specs.Block as Shape
-use Rattle.states.specs.VariableSaw as SawStart
+use Rattle.variable_saw.specs.State as SawStart
 use Rattle.variable_saw.specs.Block as Saw
-use Rattle.states.specs.SuperSquare as SquareStart
+use Rattle.super_square.specs.State as SquareStart
 use Rattle.super_square.specs.Block as Square
-use Rattle.states.specs.NesTriangle as NesStart
+use Rattle.nes_triangle.specs.State as NesStart
 use Rattle.nes_triangle.specs.Block as Nes
-use Rattle.states.specs.StringSynth as StringStart
+use Rattle.string_synth.specs.State as StringStart
 use Rattle.string_synth.specs.Block as Strings
-use Rattle.states.specs.declared.variable_shape.State.{State as ShapeState}
-use Rattle.states.specs.declared.variable_saw.State.{State as SawState}
-use Rattle.states.specs.declared.super_square.State.{State as SquareState}
-use Rattle.states.specs.declared.nes_triangle.State.{State as NesState}
-use Rattle.states.specs.declared.string_synth.State.{State as StringState}
+use Rattle.variable_shape.specs.declared.State.{State as ShapeState}
+use Rattle.variable_saw.specs.declared.State.{State as SawState}
+use Rattle.super_square.specs.declared.State.{State as SquareState}
+use Rattle.nes_triangle.specs.declared.State.{State as NesState}
+use Rattle.string_synth.specs.declared.State.{State as StringState}
 use Rattle.bank.specs.declared.Bank.{Bank}
 use Rattle.bank.specs.declared.Outcome.{Outcome}
 

@@ -11,7 +11,7 @@ use Rattle.block.specs.Oscillator.{Oscillator, callOf, Way}
 use Rattle.block.proofs.Ways.{goes, way}
 use Rattle.block.proofs.Blocks.{Laws}
 use Rattle.block.proofs.Oscillators.{answered-or-as-given, answered-fit, empty-answered}
-use Rattle.states.specs.declared.string_synth.State.{State}
+use Rattle.string_synth.specs.declared.State.{State}
 use Rattle.super_square.specs.Block.{superSquare}
 use Rattle.super_square.proofs.Phase as SuperSquare
 use Rattle.variable_shape.specs.Block.{variableShape}

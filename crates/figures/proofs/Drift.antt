@@ -16,7 +16,7 @@ use Rattle.rooms.specs.Steps.{moved, values, stepsOf, allIn, firstOutside}
 use Rattle.block.specs.Calls.{refusal}
 use Rattle.block.specs.Oscillator.{drifted}
 use Rattle.block.proofs.Ways.{goes}
-use Rattle.states.specs.declared.variable_saw.State.{State}
+use Rattle.variable_saw.specs.declared.State.{State}
 use Rattle.variable_saw.specs.Block.{stateIn, parametersIn, Arguments, interpolators, rooms, variableSaw, renderOf}
 use Rattle.variable_saw.specs.Figures.{Drifting}
 

@@ -11,7 +11,7 @@ use Rattle.parameter_interpolator.specs.Interpolator.{newInterpolator, nextInte
 use Rattle.parameter_interpolator.specs.declared.ParameterInterpolator.{ParameterInterpolator}
 use Rattle.whole_part.specs.WholePart as WholePart
 use Rattle.edges.specs.Sync.{resetTime}
-use Rattle.states.specs.declared.super_square.State.{State as SuperSquare}
+use Rattle.super_square.specs.declared.State.{State as SuperSquare}
 use Rattle.super_square.specs.Sample.{sampleOf}
 use Rattle.super_square.specs.Block.{factorOf}
 use Rattle.ranges.specs.Targets.{clampedWidth}

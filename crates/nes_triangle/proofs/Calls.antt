@@ -19,7 +19,7 @@ use Rattle.block.specs.Account.{Phases32}
 use Rattle.rooms.proofs.RangeLaws.{phase-under, under-phase}
 use Rattle.ranges.proofs.Bools.{and-both, each-of, of-each}
 use Rattle.block.proofs.Ways.{runs}
-use Rattle.states.specs.declared.nes_triangle.State.{State}
+use Rattle.nes_triangle.specs.declared.State.{State}
 use Rattle.nes_triangle.specs.Depth.{bitsIn, testedBits}
 use Rattle.nes_triangle.specs.Sample.{sampleAt}
 use Rattle.nes_triangle.specs.Block.{stepIn, stateIn, parametersIn, rooms, Arguments, nesTriangle, renderOf}

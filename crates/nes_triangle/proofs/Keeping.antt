@@ -14,7 +14,7 @@ use Rattle.rooms.proofs.RangeLaws.{frequency-step, step-frequency}
 use Rattle.ranges.proofs.Bools.{and-both}
 use Rattle.block.specs.Fit.{Inside}
 use Rattle.block.proofs.Plays.{one-most, Keeps}
-use Rattle.states.specs.declared.nes_triangle.State.{State}
+use Rattle.nes_triangle.specs.declared.State.{State}
 use Rattle.nes_triangle.specs.declared.depth.Depth.{Depth}
 use Rattle.nes_triangle.specs.declared.sample.Sampled.{Sampled}
 use Rattle.nes_triangle.specs.Depth.{depthOf}

@@ -19,8 +19,8 @@ use Rattle.block.proofs.Plays.{Keeps}
 use Rattle.block.proofs.Accounts.{OneSample}
 use Rattle.block.proofs.Blocks.{Laws}
 use Rattle.block.proofs.Oscillators.{answered-valid}
-use Rattle.states.specs.declared.nes_triangle.State.{State}
-use Rattle.states.specs.NesTriangle.{newState, initState}
+use Rattle.nes_triangle.specs.declared.State.{State}
+use Rattle.nes_triangle.specs.State.{newState, initState}
 use Rattle.nes_triangle.specs.Depth.{testedBits}
 use Rattle.nes_triangle.specs.Sample.{finish, sampleOf, sampleAt}
 use Rattle.nes_triangle.specs.Block.{stateIn, rooms, Arguments, nesTriangle}

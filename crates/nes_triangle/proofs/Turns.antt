@@ -19,7 +19,7 @@ use Rattle.floats.proofs.WholeNumbers.{whole-at}
 use Rattle.whole_part.specs.WholePart.{wholePart, isWhole}
 use Rattle.block.specs.Counting.{oneIf}
 use Rattle.ranges.proofs.Bools.{and-both}
-use Rattle.states.specs.declared.nes_triangle.State.{State}
+use Rattle.nes_triangle.specs.declared.State.{State}
 use Rattle.nes_triangle.specs.declared.depth.Depth.{Depth}
 use Rattle.nes_triangle.specs.declared.sample.Turn.{Turn}
 use Rattle.nes_triangle.specs.Depth.{depthOf}

@@ -16,7 +16,7 @@ use Rattle.ranges.specs.Ranges.{phaseIn, frequencyIn, parameterFrequencyIn, all
 use Rattle.block.specs.Calls.{Call, gave}
 use Rattle.block.specs.Checks.{_unless_}
 use Rattle.block.specs.Oscillator.{Oscillator, callOf}
-use Rattle.states.specs.declared.nes_triangle.State.{State}
+use Rattle.nes_triangle.specs.declared.State.{State}
 use Rattle.nes_triangle.specs.declared.Rendered.{Rendered}
 use Rattle.nes_triangle.specs.Depth.{bitsIn, testedBits}
 use Rattle.nes_triangle.specs.Sample.{sampleAt}

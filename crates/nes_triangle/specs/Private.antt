@@ -10,7 +10,7 @@ use Rattle.floats.proofs.Ranges.{Under, Positive}
 use Rattle.block.specs.declared.Answer.{Answer}
 use Rattle.block.specs.Counting.{noCounts}
 use Rattle.ranges.specs.Ranges.{frequencyIn}
-use Rattle.states.specs.declared.nes_triangle.State.{State}
+use Rattle.nes_triangle.specs.declared.State.{State}
 use Rattle.nes_triangle.specs.declared.Rendered.{Rendered}
 use Rattle.nes_triangle.specs.declared.depth.Depth.{Depth}
 use Rattle.nes_triangle.specs.Depth.{depthOf}

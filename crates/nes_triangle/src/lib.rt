@@ -4,6 +4,7 @@ ghost use mathlib.Core.List.{[], _∷_};
 ghost use Rattle.rooms.specs.Steps.{stepsOf, firstOutside};
 ghost use Rattle.block.specs.Calls.{run};
 ghost use Rattle.block.specs.Fit.{Fit, Playable, playedOf};
+ghost use Rattle.nes_triangle.specs.State.{newState, initState};
 ghost use Rattle.nes_triangle.specs.Sample.{sampleAt};
 ghost use Rattle.nes_triangle.specs.Block.{stepIn, stateIn, parametersIn, rooms, renderOf, left};
 ghost use Rattle.nes_triangle.specs.Private.{Passed, refused};
@@ -16,10 +17,40 @@ use rooms::Room;
 mod depth;
 mod sample;
 
-// The state, its default and its initial value, passed on from `states`.
-pub use states::nes_triangle::State;
-pub use states::nes_triangle::init;
-pub use states::nes_triangle::new;
+// The source's fields, in its order.
+pub struct State {
+    pub phase: f32,
+    pub next_sample: f32,
+    pub step: i32,
+    pub ascending: bool,
+    pub frequency: f32,
+}
+
+// The source's `Default`.
+pub fn new() -> State
+    ensures { λ r. ⌜ r ≡ newState ⌝ }
+{
+    State {
+        phase: 0.0,
+        next_sample: 0.0,
+        step: 0,
+        ascending: false,
+        frequency: 0.0,
+    }
+}
+
+// What the source's `init` leaves.
+pub fn init() -> State
+    ensures { λ r. ⌜ r ≡ initState ⌝ }
+{
+    State {
+        phase: 0.0,
+        next_sample: 0.0,
+        step: 0,
+        ascending: true,
+        frequency: 0.001,
+    }
+}
 
 // What a call gives.
 pub struct Rendered {

@@ -6,8 +6,8 @@ use lib.ListN.{getD}
 use lib.Ieee.{Float}
 use Rattle.floats.specs.F32.{f32}
 use Rattle.block.specs.Counting.{oneIf}
-use Rattle.states.specs.declared.nes_triangle.State.{State}
-use Rattle.states.specs.NesTriangle.{initState}
+use Rattle.nes_triangle.specs.declared.State.{State}
+use Rattle.nes_triangle.specs.State.{initState}
 use Rattle.nes_triangle.specs.Block.{renderOf}
 use Rattle.words.specs.Face.{Face, faceOf, bitsOf, phaseBeside, signedOf, unsignedOf}
 

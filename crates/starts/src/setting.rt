@@ -1,6 +1,6 @@
 // The variable shape's master phase set in its three forms, from the same words.
 ghost use mathlib.Core.Path.{_≡_};
-ghost use Rattle.master_phase.specs.MasterPhase.{masterPhaseSet, leftSet};
+ghost use Rattle.variable_shape.specs.MasterPhase.{masterPhaseSet, leftSet};
 use crate::fields;
 use crate::text;
 use variable_shape::PhaseSet;

@@ -14,7 +14,7 @@ use Rattle.block.specs.Checks.{Check, FirstFailing, here, later, _unless_}
 use Rattle.block.specs.Oscillator.{callOf}
 use Rattle.ranges.proofs.Bools.{and-both, of-each}
 use Rattle.block.proofs.Ways.{refused-by, runs}
-use Rattle.states.specs.declared.string_synth.State.{State}
+use Rattle.string_synth.specs.declared.State.{State}
 use Rattle.string_synth.specs.Sample.{sampleAt}
 use Rattle.string_synth.specs.Block.{stateIn, registrationIn, parametersIn, Arguments, interpolators, rooms, stringSynth}
 

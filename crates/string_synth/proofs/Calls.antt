@@ -17,7 +17,7 @@ use Rattle.block.specs.Oscillator.{checksOf}
 use Rattle.block.specs.Account.{Phases32}
 use Rattle.ranges.proofs.Bools.{and-both, each-of, of-each}
 use Rattle.block.proofs.Ways.{runs}
-use Rattle.states.specs.declared.string_synth.State.{State}
+use Rattle.string_synth.specs.declared.State.{State}
 use Rattle.string_synth.specs.declared.sample.Saws.{Saws}
 use Rattle.string_synth.specs.Sample.{sampleAt}
 use Rattle.string_synth.specs.Targets.{targetsOf}

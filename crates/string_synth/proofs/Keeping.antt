@@ -19,7 +19,7 @@ use Rattle.rooms.specs.Steps.{allIn}
 use Rattle.ranges.proofs.Bools.{and-both, of-each}
 use Rattle.block.specs.Fit.{Inside}
 use Rattle.block.proofs.Plays.{Keeps}
-use Rattle.states.specs.declared.string_synth.State.{State}
+use Rattle.string_synth.specs.declared.State.{State}
 use Rattle.string_synth.specs.declared.sample.Saws.{Saws}
 use Rattle.string_synth.specs.declared.sample.Reached.{Reached}
 use Rattle.string_synth.specs.Sample.{stayed, crossed, reachedOf, finish, sampleOf, sawsOf, sampleAt}

@@ -16,8 +16,8 @@ use Rattle.block.specs.Fit.{Inside}
 use Rattle.block.proofs.Accounts.{OneSample}
 use Rattle.block.proofs.Blocks.{Laws}
 use Rattle.block.proofs.Oscillators.{answered-valid}
-use Rattle.states.specs.declared.string_synth.State.{State}
-use Rattle.states.specs.StringSynth.{newState, initState}
+use Rattle.string_synth.specs.declared.State.{State}
+use Rattle.string_synth.specs.State.{newState, initState}
 use Rattle.string_synth.specs.Sample.{finish, sampleOf, sawsOf, sampleAt}
 use Rattle.string_synth.specs.Block.{gainsIn, stateIn, rooms, Arguments, stringSynth}
 use Rattle.string_synth.specs.Private.{Valid}

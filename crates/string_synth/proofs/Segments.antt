@@ -14,7 +14,7 @@ use Rattle.floats.proofs.At.{At}
 use Rattle.floats.proofs.Ticks.{tick, cycle}
 use Rattle.floats.proofs.PowerOfTwo.{unsigned-at, whole-le}
 use Rattle.whole_part.specs.WholePart.{wholePart, isWhole}
-use Rattle.states.specs.declared.string_synth.State.{State}
+use Rattle.string_synth.specs.declared.State.{State}
 use Rattle.string_synth.specs.declared.sample.Saws.{Saws}
 use Rattle.string_synth.specs.declared.sample.Reached.{Reached}
 use Rattle.string_synth.specs.Sample.{wrappedSegment, blepOf, softened, stayed, entered, crossed, reachedOf}

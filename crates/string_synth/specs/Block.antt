@@ -16,7 +16,7 @@ use Rattle.ranges.specs.Ranges.{within, parameterFrequencyIn, unitIn, sixteenIn
 use Rattle.block.specs.Calls.{Call, gave}
 use Rattle.block.specs.Checks.{_unless_}
 use Rattle.block.specs.Oscillator.{Oscillator, callOf}
-use Rattle.states.specs.declared.string_synth.State.{State}
+use Rattle.string_synth.specs.declared.State.{State}
 use Rattle.string_synth.specs.declared.Rendered.{Rendered}
 use Rattle.string_synth.specs.declared.sample.Saws.{Saws}
 use Rattle.string_synth.specs.Sample.{sampleAt}

@@ -9,7 +9,7 @@ use Rattle.floats.proofs.Ranges.{Under}
 use Rattle.block.specs.declared.Answer.{Answer}
 use Rattle.block.specs.Counting.{noCounts}
 use Rattle.ranges.specs.Ranges.{within}
-use Rattle.states.specs.declared.string_synth.State.{State}
+use Rattle.string_synth.specs.declared.State.{State}
 use Rattle.string_synth.specs.declared.Rendered.{Rendered}
 use Rattle.string_synth.specs.Block.{gainsIn}
 

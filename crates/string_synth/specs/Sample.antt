@@ -12,7 +12,7 @@ use Rattle.polyblep.specs.Polyblep.{thisBlepSample, nextBlepSample}
 use Rattle.whole_part.specs.WholePart.{wholePart, isWhole}
 use Rattle.block.specs.Counting.{oneIf}
 use Rattle.block.specs.Play.{Sample}
-use Rattle.states.specs.declared.string_synth.State.{State}
+use Rattle.string_synth.specs.declared.State.{State}
 use Rattle.string_synth.specs.declared.sample.Saws.{Saws}
 use Rattle.string_synth.specs.declared.sample.Reached.{Reached}
 use Rattle.string_synth.specs.declared.sample.Sampled.{Sampled}

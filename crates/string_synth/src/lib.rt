@@ -4,6 +4,7 @@ ghost use mathlib.Core.Bool.{_&&_};
 ghost use Rattle.rooms.specs.Steps.{stepsOf, firstOutside};
 ghost use Rattle.block.specs.Calls.{run};
 ghost use Rattle.block.specs.Fit.{Fit, Playable, playedOf};
+ghost use Rattle.string_synth.specs.State.{newState, initState};
 ghost use Rattle.string_synth.specs.Sample.{sampleAt};
 ghost use Rattle.string_synth.specs.Block.{stringPhaseIn, segmentIn, gainsIn, stateIn, registrationIn, parametersIn, rooms, renderOf, left};
 ghost use Rattle.string_synth.specs.Private.{Valid, refused};
@@ -17,10 +18,49 @@ mod sample;
 mod steps;
 mod targets;
 
-// The state, its default and its initial value, passed on from `states`.
-pub use states::string_synth::State;
-pub use states::string_synth::init;
-pub use states::string_synth::new;
+// The source's fields, in its order.
+pub struct State {
+    pub phase: f32,
+    pub next_sample: f32,
+    pub segment: i32,
+    pub frequency: f32,
+    pub saw_8_gain: f32,
+    pub saw_4_gain: f32,
+    pub saw_2_gain: f32,
+    pub saw_1_gain: f32,
+}
+
+// The source's `Default`.
+pub fn new() -> State
+    ensures { λ r. ⌜ r ≡ newState ⌝ }
+{
+    State {
+        phase: 0.0,
+        next_sample: 0.0,
+        segment: 0,
+        frequency: 0.0,
+        saw_8_gain: 0.0,
+        saw_4_gain: 0.0,
+        saw_2_gain: 0.0,
+        saw_1_gain: 0.0,
+    }
+}
+
+// What the source's `init` leaves.
+pub fn init() -> State
+    ensures { λ r. ⌜ r ≡ initState ⌝ }
+{
+    State {
+        phase: 0.0,
+        next_sample: 0.0,
+        segment: 0,
+        frequency: 0.001,
+        saw_8_gain: 0.0,
+        saw_4_gain: 0.0,
+        saw_2_gain: 0.0,
+        saw_1_gain: 0.0,
+    }
+}
 
 // What a call gives.
 pub struct Rendered {

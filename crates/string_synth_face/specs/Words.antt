@@ -4,8 +4,8 @@ use Prim.Native.Nat.{ℕ}
 use lib.ListN.{getD}
 use lib.Ieee.{Float}
 use Rattle.floats.specs.F32.{f32}
-use Rattle.states.specs.declared.string_synth.State.{State}
-use Rattle.states.specs.StringSynth.{initState}
+use Rattle.string_synth.specs.declared.State.{State}
+use Rattle.string_synth.specs.State.{initState}
 use Rattle.string_synth.specs.Block.{renderOf}
 use Rattle.words.specs.Face.{Face, faceOf, bitsOf, signedOf, unsignedOf}
 

@@ -15,7 +15,7 @@ use Rattle.block.specs.Account.{Phases32}
 use Rattle.ranges.proofs.Bools.{each-of, of-each}
 use Rattle.rooms.proofs.RangeLaws.{phase-under, under-phase}
 use Rattle.block.proofs.Ways.{runs}
-use Rattle.states.specs.declared.super_square.State.{State}
+use Rattle.super_square.specs.declared.State.{State}
 use Rattle.super_square.specs.Sample.{sampleAt}
 use Rattle.super_square.specs.Block.{stateIn, Arguments, factorOf, rooms, superSquare, renderOf}
 use Rattle.super_square.specs.Private.{Valid}

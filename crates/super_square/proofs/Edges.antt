@@ -10,7 +10,7 @@ use Rattle.floats.proofs.Ranges.{Under}
 use Rattle.edges.specs.declared.Edge.{Edge}
 use Rattle.edges.specs.Sync.{slaveAtReset, wrapOnce, transitionDuringReset, cutEdge}
 use Rattle.edges.proofs.Crossings.{Crosses, Crossable}
-use Rattle.states.specs.declared.super_square.State.{State}
+use Rattle.super_square.specs.declared.State.{State}
 use Rattle.super_square.specs.Sample.{level, riseOf, fallOf, crossed, edgeOf, resetEdge}
 use Rattle.super_square.specs.Private.{Ready}
 

@@ -20,7 +20,7 @@ use Rattle.block.specs.Fit.{Inside}
 use Rattle.block.proofs.Plays.{one-most, Keeps}
 use Rattle.edges.proofs.Crossings.{Crossable, Crossed, crossed-of}
 use Rattle.edges.proofs.CrossingsReset.{cut-crossable, maybe-crossed}
-use Rattle.states.specs.declared.super_square.State.{State}
+use Rattle.super_square.specs.declared.State.{State}
 use Rattle.super_square.specs.declared.sample.Sampled.{Sampled}
 use Rattle.super_square.specs.Sample.{level, crossed, edgeOf, finish, resetEdge, resetSample, plainSample, sampleOf, sampleAt}
 use Rattle.super_square.specs.Block.{rooms}

@@ -14,7 +14,7 @@ use Rattle.block.specs.Play.{Sample, Heard}
 use Rattle.block.specs.Calls.{done}
 use Rattle.block.specs.Fit.{Playable, playedOf}
 use Rattle.block.proofs.Plays.{Playing, playing-start, playing-inside, playing-counts, playing-more, playing-end}
-use Rattle.states.specs.declared.super_square.State.{State}
+use Rattle.super_square.specs.declared.State.{State}
 use Rattle.super_square.specs.declared.sample.Sampled.{Sampled}
 use Rattle.super_square.specs.Sample.{sampleOf, sampleAt}
 use Rattle.super_square.specs.Block.{rooms, left}

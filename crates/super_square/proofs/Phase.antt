@@ -15,8 +15,8 @@ use Rattle.block.specs.Fit.{Inside}
 use Rattle.block.proofs.Accounts.{OneSample}
 use Rattle.block.proofs.Blocks.{Laws}
 use Rattle.block.proofs.Oscillators.{answered-valid}
-use Rattle.states.specs.declared.super_square.State.{State}
-use Rattle.states.specs.SuperSquare.{newState, initState}
+use Rattle.super_square.specs.declared.State.{State}
+use Rattle.super_square.specs.State.{newState, initState}
 use Rattle.super_square.specs.Sample.{sampleAt}
 use Rattle.super_square.specs.Block.{stateIn, rooms, Arguments, superSquare}
 use Rattle.super_square.specs.Private.{Valid}

@@ -13,7 +13,7 @@ use Rattle.ranges.specs.Ranges.{phaseIn, frequencyIn, parameterFrequencyIn, uni
 use Rattle.block.specs.Calls.{Call, gave}
 use Rattle.block.specs.Checks.{_unless_}
 use Rattle.block.specs.Oscillator.{Oscillator, callOf}
-use Rattle.states.specs.declared.super_square.State.{State}
+use Rattle.super_square.specs.declared.State.{State}
 use Rattle.super_square.specs.declared.Rendered.{Rendered}
 use Rattle.super_square.specs.Sample.{sampleAt}
 

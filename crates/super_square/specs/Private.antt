@@ -9,7 +9,7 @@ use Rattle.floats.proofs.Ranges.{Under, Positive}
 use Rattle.block.specs.declared.Answer.{Answer}
 use Rattle.block.specs.Counting.{noCounts}
 use Rattle.ranges.specs.Ranges.{frequencyIn}
-use Rattle.states.specs.declared.super_square.State.{State}
+use Rattle.super_square.specs.declared.State.{State}
 use Rattle.super_square.specs.declared.Rendered.{Rendered}
 
 -- both phases are binary32 values of at least 0 and below 1, and the frequencies pass their test

@@ -11,7 +11,7 @@ use Rattle.block.specs.Counting.{oneIf}
 use Rattle.edges.specs.Crossings.{crossings}
 use Rattle.edges.specs.Sync.{resetTime, slaveAtReset, wrapOnce, transitionDuringReset, cutEdge}
 use Rattle.block.specs.Play.{Sample}
-use Rattle.states.specs.declared.super_square.State.{State}
+use Rattle.super_square.specs.declared.State.{State}
 use Rattle.super_square.specs.declared.sample.Sampled.{Sampled}
 
 -- the square, lines 90 and 127

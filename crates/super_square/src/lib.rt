@@ -4,6 +4,7 @@ ghost use mathlib.Core.List.{[], _∷_};
 ghost use Rattle.rooms.specs.Steps.{stepsOf, firstOutside};
 ghost use Rattle.block.specs.Calls.{run};
 ghost use Rattle.block.specs.Fit.{Fit, Playable, playedOf};
+ghost use Rattle.super_square.specs.State.{newState, initState};
 ghost use Rattle.super_square.specs.Sample.{sampleAt};
 ghost use Rattle.super_square.specs.Block.{stateIn, parametersIn, factorOf, rooms, renderOf, left};
 ghost use Rattle.super_square.specs.Private.{Valid, refused};
@@ -15,10 +16,43 @@ use rooms::Room;
 
 mod sample;
 
-// The state, its default and its initial value, passed on from `states`.
-pub use states::super_square::State;
-pub use states::super_square::init;
-pub use states::super_square::new;
+// The source's fields, in its order.
+pub struct State {
+    pub master_phase: f32,
+    pub slave_phase: f32,
+    pub next_sample: f32,
+    pub high: bool,
+    pub master_frequency: f32,
+    pub slave_frequency: f32,
+}
+
+// The source's `Default`.
+pub fn new() -> State
+    ensures { λ r. ⌜ r ≡ newState ⌝ }
+{
+    State {
+        master_phase: 0.0,
+        slave_phase: 0.0,
+        next_sample: 0.0,
+        high: false,
+        master_frequency: 0.0,
+        slave_frequency: 0.0,
+    }
+}
+
+// What the source's `init` leaves.
+pub fn init() -> State
+    ensures { λ r. ⌜ r ≡ initState ⌝ }
+{
+    State {
+        master_phase: 0.0,
+        slave_phase: 0.0,
+        next_sample: 0.0,
+        high: false,
+        master_frequency: 0.0,
+        slave_frequency: 0.01,
+    }
+}
 
 // What a call gives.
 pub struct Rendered {

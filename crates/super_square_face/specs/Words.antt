@@ -6,8 +6,8 @@ use lib.ListN.{getD}
 use lib.Ieee.{Float}
 use Rattle.floats.specs.F32.{f32}
 use Rattle.block.specs.Counting.{oneIf}
-use Rattle.states.specs.declared.super_square.State.{State}
-use Rattle.states.specs.SuperSquare.{initState}
+use Rattle.super_square.specs.declared.State.{State}
+use Rattle.super_square.specs.State.{initState}
 use Rattle.super_square.specs.Block.{renderOf}
 use Rattle.words.specs.Face.{Face, faceOf, bitsOf, phaseBeside}
 

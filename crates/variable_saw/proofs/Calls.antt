@@ -18,7 +18,7 @@ use Rattle.block.specs.Account.{Phases32}
 use Rattle.ranges.proofs.Bools.{and-both, each-of, of-each}
 use Rattle.rooms.proofs.RangeLaws.{phase-under, under-phase}
 use Rattle.block.proofs.Ways.{runs}
-use Rattle.states.specs.declared.variable_saw.State.{State}
+use Rattle.variable_saw.specs.declared.State.{State}
 use Rattle.variable_saw.specs.Sample.{sampleAt}
 use Rattle.variable_saw.specs.Block.{sawPhaseIn, stateIn, Arguments, rooms, variableSaw, renderOf}
 use Rattle.variable_saw.specs.Private.{reach, Valid}

@@ -20,7 +20,7 @@ use Rattle.block.specs.Fit.{Inside}
 use Rattle.block.proofs.Plays.{one-most, Keeps}
 use Rattle.rooms.proofs.RangeLaws.{frequency-step, step-frequency, width-unit}
 use Rattle.edges.specs.declared.Edge.{Edge}
-use Rattle.states.specs.declared.variable_saw.State.{State}
+use Rattle.variable_saw.specs.declared.State.{State}
 use Rattle.variable_saw.specs.declared.sample.Wave.{Wave}
 use Rattle.variable_saw.specs.declared.sample.Sampled.{Sampled}
 use Rattle.variable_saw.specs.Sample.{waveOf, riseOf, wrapOf, edgeOf, finish, sampleOf, sampleAt}

@@ -14,7 +14,7 @@ use Rattle.block.specs.Play.{Sample, Heard}
 use Rattle.block.specs.Calls.{done}
 use Rattle.block.specs.Fit.{Playable, playedOf}
 use Rattle.block.proofs.Plays.{Playing, playing-start, playing-counts, playing-more, playing-end}
-use Rattle.states.specs.declared.variable_saw.State.{State}
+use Rattle.variable_saw.specs.declared.State.{State}
 use Rattle.variable_saw.specs.declared.sample.Sampled.{Sampled}
 use Rattle.variable_saw.specs.Sample.{sampleOf, sampleAt}
 use Rattle.variable_saw.specs.Block.{rooms, left}

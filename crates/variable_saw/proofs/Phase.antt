@@ -16,8 +16,8 @@ use Rattle.block.specs.Fit.{Inside}
 use Rattle.block.proofs.Accounts.{OneSample}
 use Rattle.block.proofs.Blocks.{Laws}
 use Rattle.block.proofs.Oscillators.{answered-valid}
-use Rattle.states.specs.declared.variable_saw.State.{State}
-use Rattle.states.specs.VariableSaw.{newState, initState}
+use Rattle.variable_saw.specs.declared.State.{State}
+use Rattle.variable_saw.specs.State.{newState, initState}
 use Rattle.variable_saw.specs.Sample.{sampleAt}
 use Rattle.variable_saw.specs.Block.{stateIn, rooms, Arguments, variableSaw}
 use Rattle.variable_saw.specs.Private.{Valid}

@@ -4,7 +4,7 @@ use mathlib.Core.Bool.{true, false, not, _&&_}
 use lib.Ieee.{Float, le}
 use Rattle.floats.specs.F32.{one32}
 use Rattle.edges.specs.declared.Edge.{Edge}
-use Rattle.states.specs.declared.variable_saw.State.{State}
+use Rattle.variable_saw.specs.declared.State.{State}
 use Rattle.variable_saw.specs.declared.sample.Wave.{Wave}
 use Rattle.variable_saw.specs.declared.sample.Sampled.{Sampled}
 use Rattle.variable_saw.specs.Sample.{waveOf, riseOf, wrapOf, edgeOf, finish, sampleOf}

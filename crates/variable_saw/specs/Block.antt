@@ -13,7 +13,7 @@ use Rattle.ranges.specs.Ranges.{within, phaseIn, frequencyIn, parameterFrequenc
 use Rattle.block.specs.Calls.{Call, gave}
 use Rattle.block.specs.Checks.{_unless_}
 use Rattle.block.specs.Oscillator.{Oscillator, callOf}
-use Rattle.states.specs.declared.variable_saw.State.{State}
+use Rattle.variable_saw.specs.declared.State.{State}
 use Rattle.variable_saw.specs.declared.Rendered.{Rendered}
 use Rattle.variable_saw.specs.Sample.{sampleAt}
 

@@ -3,7 +3,7 @@ use mathlib.Core.Path.{_≡_}
 use mathlib.Core.Bool.{false}
 use lib.Ieee.{Float}
 use Rattle.floats.specs.F32.{_⊕_, f32, zero32, half32}
-use Rattle.states.specs.declared.variable_saw.State.{State}
+use Rattle.variable_saw.specs.declared.State.{State}
 use Rattle.variable_saw.specs.declared.sample.Sampled.{Sampled}
 use Rattle.edges.specs.Triangle.{riseTime}
 use Rattle.variable_saw.specs.Sample.{sampleOf}

@@ -8,7 +8,7 @@ use Rattle.floats.proofs.Ranges.{Under}
 use Rattle.block.specs.declared.Answer.{Answer}
 use Rattle.block.specs.Counting.{noCounts}
 use Rattle.ranges.specs.Ranges.{frequencyIn, unitIn, waveshapeIn}
-use Rattle.states.specs.declared.variable_saw.State.{State}
+use Rattle.variable_saw.specs.declared.State.{State}
 use Rattle.variable_saw.specs.declared.Rendered.{Rendered}
 
 -- what the phase stays below: 1 when `high` is false; when it is true, the next number of units after 81/64

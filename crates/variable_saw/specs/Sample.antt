@@ -10,7 +10,7 @@ use Rattle.edges.specs.declared.Edge.{Edge}
 use Rattle.edges.specs.Triangle.{triangle, triangleStep, riseTime}
 use Rattle.block.specs.Counting.{oneIf}
 use Rattle.block.specs.Play.{Sample}
-use Rattle.states.specs.declared.variable_saw.State.{State}
+use Rattle.variable_saw.specs.declared.State.{State}
 use Rattle.variable_saw.specs.declared.sample.Wave.{Wave}
 use Rattle.variable_saw.specs.declared.sample.Sampled.{Sampled}
 

@@ -4,6 +4,7 @@ ghost use mathlib.Core.List.{[], _∷_};
 ghost use Rattle.rooms.specs.Steps.{stepsOf, firstOutside};
 ghost use Rattle.block.specs.Calls.{run};
 ghost use Rattle.block.specs.Fit.{Fit, Playable, playedOf};
+ghost use Rattle.variable_saw.specs.State.{newState, initState};
 ghost use Rattle.variable_saw.specs.Sample.{sampleAt};
 ghost use Rattle.variable_saw.specs.Block.{sawPhaseIn, stateIn, parametersIn, rooms, renderOf, left};
 ghost use Rattle.variable_saw.specs.Private.{Valid, refused};
@@ -15,10 +16,46 @@ use rooms::Room;
 
 mod sample;
 
-// The state, its default and its initial value, passed on from `states`.
-pub use states::variable_saw::State;
-pub use states::variable_saw::init;
-pub use states::variable_saw::new;
+// The source's fields, in its order.
+pub struct State {
+    pub phase: f32,
+    pub next_sample: f32,
+    pub previous_pw: f32,
+    pub high: bool,
+    pub frequency: f32,
+    pub pw: f32,
+    pub waveshape: f32,
+}
+
+// The source's `Default`.
+pub fn new() -> State
+    ensures { λ r. ⌜ r ≡ newState ⌝ }
+{
+    State {
+        phase: 0.0,
+        next_sample: 0.0,
+        previous_pw: 0.0,
+        high: false,
+        frequency: 0.0,
+        pw: 0.0,
+        waveshape: 0.0,
+    }
+}
+
+// What the source's `init` leaves.
+pub fn init() -> State
+    ensures { λ r. ⌜ r ≡ initState ⌝ }
+{
+    State {
+        phase: 0.0,
+        next_sample: 0.0,
+        previous_pw: 0.5,
+        high: false,
+        frequency: 0.01,
+        pw: 0.5,
+        waveshape: 0.0,
+    }
+}
 
 // What a call gives.
 pub struct Rendered {

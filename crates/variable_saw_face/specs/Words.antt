@@ -6,8 +6,8 @@ use lib.ListN.{getD}
 use lib.Ieee.{Float}
 use Rattle.floats.specs.F32.{f32}
 use Rattle.block.specs.Counting.{oneIf}
-use Rattle.states.specs.declared.variable_saw.State.{State}
-use Rattle.states.specs.VariableSaw.{initState}
+use Rattle.variable_saw.specs.declared.State.{State}
+use Rattle.variable_saw.specs.State.{initState}
 use Rattle.variable_saw.specs.Block.{renderOf}
 use Rattle.words.specs.Face.{Face, faceOf, bitsOf, phaseBeside}
 

@@ -12,7 +12,7 @@ use Rattle.block.specs.Account.{AllFit}
 use Rattle.ranges.proofs.Bools.{each-of}
 use Rattle.rooms.proofs.RangeLaws.{phase-under}
 use Rattle.block.proofs.Ways.{runs}
-use Rattle.states.specs.declared.variable_shape.State.{State}
+use Rattle.variable_shape.specs.declared.State.{State}
 use Rattle.variable_shape.specs.declared.steps.Interpolators.{Interpolators}
 use Rattle.variable_shape.specs.Sample.{sampleAt}
 use Rattle.variable_shape.specs.Block.{stateIn, Arguments, interpolatorsOf, movingOf, stepping, rooms, variableShape, renderOf}

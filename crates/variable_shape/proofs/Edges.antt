@@ -10,7 +10,7 @@ use Rattle.floats.proofs.Ranges.{Under}
 use Rattle.edges.specs.declared.Edge.{Edge}
 use Rattle.edges.specs.Sync.{slaveAtReset, wrapOnce, transitionDuringReset, cutEdge}
 use Rattle.edges.proofs.Crossings.{Crosses, Going}
-use Rattle.states.specs.declared.variable_shape.State.{State}
+use Rattle.variable_shape.specs.declared.State.{State}
 use Rattle.variable_shape.specs.declared.steps.Steps.{Steps}
 use Rattle.variable_shape.specs.declared.waveform.Waveform.{Waveform}
 use Rattle.variable_shape.specs.declared.sample.Sampled.{Sampled}

@@ -27,7 +27,7 @@ use Rattle.block.proofs.Accounts.{OneSample}
 use Rattle.edges.proofs.Crossings.{Crossable, Crossed, crossed-of}
 use Rattle.edges.proofs.CrossingsWrap.{Wraps, crossings-wrap}
 use Rattle.edges.proofs.CrossingsReset.{cut-crossable, maybe-crossed}
-use Rattle.states.specs.declared.variable_shape.State.{State}
+use Rattle.variable_shape.specs.declared.State.{State}
 use Rattle.variable_shape.specs.declared.steps.Steps.{Steps}
 use Rattle.variable_shape.specs.declared.waveform.Waveform.{Waveform}
 use Rattle.variable_shape.specs.declared.sample.Sampled.{Sampled}

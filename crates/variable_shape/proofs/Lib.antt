@@ -5,3 +5,4 @@ pub mod Loop
 pub mod Calls
 pub mod Phase
 pub mod Tight
+pub mod TightMasterPhase

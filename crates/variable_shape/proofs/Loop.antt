@@ -17,7 +17,7 @@ use Rattle.block.specs.Calls.{done}
 use Rattle.block.specs.Fit.{Playable, playedOf}
 use Rattle.ranges.proofs.Bools.{cond-both}
 use Rattle.block.proofs.Plays.{Playing, playing-start, playing-inside, playing-counts, playing-more, playing-end}
-use Rattle.states.specs.declared.variable_shape.State.{State}
+use Rattle.variable_shape.specs.declared.State.{State}
 use Rattle.variable_shape.specs.declared.steps.Interpolators.{Interpolators}
 use Rattle.variable_shape.specs.declared.steps.Steps.{Steps}
 use Rattle.variable_shape.specs.declared.sample.Sampled.{Sampled}

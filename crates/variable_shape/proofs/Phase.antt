@@ -16,8 +16,8 @@ use Rattle.block.specs.Fit.{Inside}
 use Rattle.block.proofs.Accounts.{OneSample}
 use Rattle.block.proofs.Blocks.{Laws}
 use Rattle.block.proofs.Oscillators.{answered-valid}
-use Rattle.states.specs.declared.variable_shape.State.{State}
-use Rattle.states.specs.VariableShape.{newState, initState}
+use Rattle.variable_shape.specs.declared.State.{State}
+use Rattle.variable_shape.specs.State.{newState, initState}
 use Rattle.variable_shape.specs.Sample.{stepsAt, sampleAt}
 use Rattle.variable_shape.specs.Block.{stateIn, rooms, Arguments, movingOf, variableShape}
 use Rattle.variable_shape.specs.Private.{Valid}

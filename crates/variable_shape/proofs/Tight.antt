@@ -1,7 +1,16 @@
--- The contract of `render`, as the kit reads it, determines all: answer, state, counts and buffer. Assumes nothing.
+-- The contracts of `new`, `init` and `render`, as the kit reads them, determine all: the state; answer, state, counts and buffer. Assumes nothing.
+use mathlib.Core.Path.{refl}
 use Rattle.floats.proofs.Contracts.{Determines, coincide}
 use Rattle.block.proofs.Contracts.{same-outcome}
+use Rattle.variable_shape.proofs.new
+use Rattle.variable_shape.proofs.init
 use Rattle.variable_shape.proofs.render
+
+pub new-tight : Determines new.ended new.Reads.Learnt
+new-tight κs a r q v w h k = (coincide h k, refl)
+
+pub init-tight : Determines init.ended init.Reads.Learnt
+init-tight κs a r q v w h k = (coincide h k, refl)
 
 pub render-tight : Determines render.ended render.Reads.Learnt
 render-tight κs a r q v w h k =

@@ -14,7 +14,7 @@ use Rattle.ranges.specs.Ranges.{within, phaseIn, frequencyIn, parameterFrequenc
 use Rattle.block.specs.Calls.{Call, gave}
 use Rattle.block.specs.Checks.{_unless_}
 use Rattle.block.specs.Oscillator.{Oscillator, callOf}
-use Rattle.states.specs.declared.variable_shape.State.{State}
+use Rattle.variable_shape.specs.declared.State.{State}
 use Rattle.variable_shape.specs.declared.Rendered.{Rendered}
 use Rattle.variable_shape.specs.declared.steps.Interpolators.{Interpolators}
 use Rattle.variable_shape.specs.Sample.{sampleAt}

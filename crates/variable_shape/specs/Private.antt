@@ -15,7 +15,7 @@ use Rattle.rooms.specs.declared.Room.the-variants.{Unused, Sixteen}
 use Rattle.block.specs.Counting.{noCounts}
 use Rattle.ranges.specs.Ranges.{waveshapeIn, sixteenIn}
 use Rattle.edges.proofs.Crossings.{Crossable}
-use Rattle.states.specs.declared.variable_shape.State.{State}
+use Rattle.variable_shape.specs.declared.State.{State}
 use Rattle.variable_shape.specs.declared.Rendered.{Rendered}
 use Rattle.variable_shape.specs.declared.steps.Interpolators.{Interpolators}
 use Rattle.variable_shape.specs.declared.steps.Steps.{Steps}

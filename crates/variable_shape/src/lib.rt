@@ -3,6 +3,7 @@ ghost use mathlib.Core.Path.{_≡_};
 ghost use Rattle.rooms.specs.Steps.{stepsOf, firstOutside};
 ghost use Rattle.block.specs.Calls.{run};
 ghost use Rattle.block.specs.Fit.{Fit, Playable, playedOf};
+ghost use Rattle.variable_shape.specs.State.{newState, initState};
 ghost use Rattle.variable_shape.specs.Sample.{sampleAt};
 ghost use Rattle.variable_shape.specs.Block.{stateIn, parametersIn, stepping, rooms, renderOf, left};
 ghost use Rattle.variable_shape.specs.Private.{Started, refused, modulationRoom};
@@ -12,18 +13,66 @@ use rooms::Found;
 use rooms::Room;
 use steps::Interpolators;
 
+mod master_phase;
 mod output;
 mod sample;
 mod steps;
 mod waveform;
 
-// The setting of the master's phase, passed on from `master_phase`, and the state, its default and its initial value, from `states`.
+// The setting of the master's phase.
 pub use master_phase::PhaseSet;
 pub use master_phase::set_master_phase;
 pub use master_phase::set_master_phase_in;
-pub use states::variable_shape::State;
-pub use states::variable_shape::init;
-pub use states::variable_shape::new;
+
+// The source's fields, in its order.
+pub struct State {
+    pub master_phase: f32,
+    pub slave_phase: f32,
+    pub next_sample: f32,
+    pub previous_pw: f32,
+    pub high: bool,
+    pub master_frequency: f32,
+    pub slave_frequency: f32,
+    pub pw: f32,
+    pub waveshape: f32,
+    pub phase_modulation: f32,
+}
+
+// The source's `Default`.
+pub fn new() -> State
+    ensures { λ r. ⌜ r ≡ newState ⌝ }
+{
+    State {
+        master_phase: 0.0,
+        slave_phase: 0.0,
+        next_sample: 0.0,
+        previous_pw: 0.0,
+        high: false,
+        master_frequency: 0.0,
+        slave_frequency: 0.0,
+        pw: 0.0,
+        waveshape: 0.0,
+        phase_modulation: 0.0,
+    }
+}
+
+// What the source's `init` leaves.
+pub fn init() -> State
+    ensures { λ r. ⌜ r ≡ initState ⌝ }
+{
+    State {
+        master_phase: 0.0,
+        slave_phase: 0.0,
+        next_sample: 0.0,
+        previous_pw: 0.5,
+        high: false,
+        master_frequency: 0.0,
+        slave_frequency: 0.01,
+        pw: 0.5,
+        waveshape: 0.0,
+        phase_modulation: 0.0,
+    }
+}
 
 // What a call gives.
 pub struct Rendered {

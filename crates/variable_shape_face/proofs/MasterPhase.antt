@@ -5,7 +5,7 @@ use mathlib.Core.List.{List}
 use Prim.Native.Nat.{ℕ}
 use lib.Dec.{eqb}
 use lib.ListN.{set}
-use Rattle.master_phase.specs.MasterPhase.{Setting}
+use Rattle.variable_shape.specs.MasterPhase.{Setting}
 use Rattle.words.specs.Face.{bitsOf}
 use Rattle.variable_shape_face.specs.Words.{setOf}
 

@@ -7,10 +7,10 @@ use lib.ListN.{getD, set}
 use lib.Ieee.{Float}
 use Rattle.floats.specs.F32.{f32}
 use Rattle.block.specs.Counting.{oneIf}
-use Rattle.states.specs.declared.variable_shape.State.{State}
-use Rattle.states.specs.VariableShape.{initState}
+use Rattle.variable_shape.specs.declared.State.{State}
+use Rattle.variable_shape.specs.State.{initState}
 use Rattle.variable_shape.specs.Block.{renderOf}
-use Rattle.master_phase.specs.MasterPhase.{Setting, masterPhaseSet}
+use Rattle.variable_shape.specs.MasterPhase.{Setting, masterPhaseSet}
 use Rattle.words.specs.Face.{Face, faceOf, bitsOf, phaseBeside}
 
 -- the state of the words, field by field. A word for `high` that is neither 0 nor 1 is refused as a bad state is: `bad-bool` in proofs/BadWords.antt

@@ -1,6 +1,6 @@
 -- `nes_triangle_face::render` meets its contract: the NES triangle's own call, put into words. Assumes nothing.
 use mathlib.Core.Path.{_∙_, refl, ap}
-use Rattle.states.specs.declared.nes_triangle.State.{State}
+use Rattle.nes_triangle.specs.declared.State.{State}
 use Rattle.nes_triangle.specs.Block.{renderOf, left}
 use Rattle.words.proofs.Faces.{face-is}
 use borrow.Author.Needs.{needs}

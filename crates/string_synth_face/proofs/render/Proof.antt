@@ -1,6 +1,6 @@
 -- `string_synth_face::render` meets its contract: the string synth's own call, put into words. Assumes nothing.
 use mathlib.Core.Path.{_∙_, refl, ap}
-use Rattle.states.specs.declared.string_synth.State.{State}
+use Rattle.string_synth.specs.declared.State.{State}
 use Rattle.string_synth.specs.Block.{renderOf, left}
 use Rattle.words.proofs.Faces.{face-is}
 use borrow.Author.Needs.{needs}

@@ -1,6 +1,6 @@
 -- `super_square_face::render` meets its contract: the super square's own call, put into words. Assumes nothing.
 use mathlib.Core.Path.{_∙_, refl, ap}
-use Rattle.states.specs.declared.super_square.State.{State}
+use Rattle.super_square.specs.declared.State.{State}
 use Rattle.super_square.specs.Block.{renderOf, left}
 use Rattle.words.proofs.Faces.{face-is}
 use borrow.Author.Needs.{needs}

@@ -1,6 +1,6 @@
 -- `variable_saw_face::render` meets its contract: the variable saw's own call, put into words. Assumes nothing.
 use mathlib.Core.Path.{_∙_, refl, ap}
-use Rattle.states.specs.declared.variable_saw.State.{State}
+use Rattle.variable_saw.specs.declared.State.{State}
 use Rattle.variable_saw.specs.Block.{renderOf, left}
 use Rattle.words.proofs.Faces.{face-is}
 use borrow.Author.Needs.{needs}

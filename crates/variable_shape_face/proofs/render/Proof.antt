@@ -1,6 +1,6 @@
 -- `variable_shape_face::render` meets its contract: the variable shape's own call, put into words. Assumes nothing.
 use mathlib.Core.Path.{_∙_, refl, ap}
-use Rattle.states.specs.declared.variable_shape.State.{State}
+use Rattle.variable_shape.specs.declared.State.{State}
 use Rattle.variable_shape.specs.Block.{renderOf, left}
 use Rattle.words.proofs.Faces.{face-is}
 use borrow.Author.Needs.{needs}

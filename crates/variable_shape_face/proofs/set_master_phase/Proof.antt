@@ -1,7 +1,7 @@
 -- `variable_shape_face::set_master_phase` meets its contract: the variable shape's own setting, put into one word. Assumes nothing.
 use mathlib.Core.Path.{_∙_, ap}
-use Rattle.states.specs.declared.variable_shape.State.{State}
-use Rattle.master_phase.specs.MasterPhase.{masterPhaseSet, leftSet}
+use Rattle.variable_shape.specs.declared.State.{State}
+use Rattle.variable_shape.specs.MasterPhase.{masterPhaseSet, leftSet}
 use Rattle.variable_shape_face.proofs.MasterPhase.{set-is}
 use borrow.Author.Needs.{needs}
 use Rattle.variable_shape_face.proofs.set_master_phase.Statement.{statement}

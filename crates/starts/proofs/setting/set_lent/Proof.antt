@@ -42,20 +42,20 @@ use denote.Triple.Spec.{Meets, tripleOf}
 use denote.Triple.Table.{entered, cited}
 use denote.Triple.Walked.{says, Stays, stay-none, walkOf, goes-none, Walks, ends-at, walked, walk-meets}
 use denote.Exit.{yes}
-use Rattle.states.specs.declared.variable_shape.State.{State}
-use Rattle.master_phase.specs.declared.PhaseSet.{PhaseSet}
-use Rattle.master_phase.specs.MasterPhase.{masterPhaseSet, leftSet}
+use Rattle.variable_shape.specs.declared.State.{State}
+use Rattle.variable_shape.specs.declared.master_phase.PhaseSet.{PhaseSet}
+use Rattle.variable_shape.specs.MasterPhase.{masterPhaseSet, leftSet}
 use Rattle.block.specs.declared.Answer.{Answer}
 use Rattle.block.proofs.Answer as E
 use Rattle.block.proofs.Answer.Laws as E′
-use Rattle.states.proofs.variable_shape.State as T
-use Rattle.states.proofs.variable_shape.State.Laws as T′
-use Rattle.master_phase.proofs.PhaseSet as S
-use Rattle.master_phase.proofs.PhaseSet.Laws as S′
-use Rattle.master_phase.proofs.set_master_phase_in as g
-use Rattle.master_phase.proofs.set_master_phase_in.Symbol as g-def
-use Rattle.master_phase.proofs.set_master_phase_in.Symbol.{name as #master-phase·set-master-phase-in}
-use Rattle.master_phase.proofs.set_master_phase_in.Met as g-thm
+use Rattle.variable_shape.proofs.State as T
+use Rattle.variable_shape.proofs.State.Laws as T′
+use Rattle.variable_shape.proofs.master_phase.PhaseSet as S
+use Rattle.variable_shape.proofs.master_phase.PhaseSet.Laws as S′
+use Rattle.variable_shape.proofs.set_master_phase_in as g
+use Rattle.variable_shape.proofs.set_master_phase_in.Symbol as g-def
+use Rattle.variable_shape.proofs.set_master_phase_in.Symbol.{name as #variable-shape·set-master-phase-in}
+use Rattle.variable_shape.proofs.set_master_phase_in.Met as g-thm
 use Rattle.starts.proofs.setting.set_lent.Key.{name as #starts·setting·set-lent}
 use Rattle.starts.proofs.setting.set_lent as f
 use Rattle.starts.proofs.setting.set_lent.Statement as stated
@@ -126,7 +126,7 @@ module _ {M : Type 1} (𝓤 : URA M) (H : Heap 𝓤) (A : Atoms 𝓤) (W : Given
   made : (r : Answer) (s : State) (v : Val) → Is E.the-row r (v ∷ []) → Is T.the-row s (mach s ∷ []) → Is S.the-row (result r s) (set-val (result r s) ∷ [])
   made r s v is kept = LL.owes S.the-type S′.the-laws (result r s) (LE.owes E.the-type E′.the-laws r (LE.owed E.the-type E′.the-laws r (v ∷ []) is), (kept, tt))
 
-  module _ (C : Calls 𝓤 H) (Λ : Loops 𝓤 H) (fm : FmC 𝓤 H (W .laws) C) (known : Triple 𝓤 (C #master-phase·set-master-phase-in) (SetIn 𝓤 H A at-mem run)) where
+  module _ (C : Calls 𝓤 H) (Λ : Loops 𝓤 H) (fm : FmC 𝓤 H (W .laws) C) (known : Triple 𝓤 (C #variable-shape·set-master-phase-in) (SetIn 𝓤 H A at-mem run)) where
     walk : ent 𝓤 (onEntry 𝓤 H A f.signature tt tt (h, (n, tt)) (mach h ∷ [], (vfloat binary32 n ∷ [], tt))) (WpFn 𝓤 H C Λ code.function (mach h ∷ vfloat binary32 n ∷ []) Post)
     walk =
         qed W (‵ ftrue ∷ ‵ (owns (T.the-row ∷ f32 ∷ []) (h, (n, tt)) (mach h ∷ [], (vfloat binary32 n ∷ [], tt))) ∷ []) ∵ keep ! [] $ enter ! C Λ code.function (mach h ∷ vfloat binary32 n ∷ []) _ $
@@ -161,11 +161,11 @@ module _ {M : Type 1} (𝓤 : URA M) (H : Heap 𝓤) (A : Atoms 𝓤) (W : Given
         keep ! [] $ by ! (exits (result r (ws .0)) (made r (ws .0) v is kept) e))))))))))))))))
 
 module _ {M : Type 1} (𝓤 : URA M) (H : Heap 𝓤) (A : Atoms 𝓤) (W : Given 𝓤 H A) (at-mem : Memory → SProp 𝓤) (run : Routine → Fun 𝓤) where
-  f-walks : (C : Calls 𝓤 H) (Λ : Loops 𝓤 H) → FmC 𝓤 H (W .laws) C → Triple 𝓤 (C #master-phase·set-master-phase-in) (SetIn 𝓤 H A at-mem run) → Walks 𝓤 H A f.ended stayed (WpFn 𝓤 H C Λ code.function) (f.clauses 𝓤 H A at-mem run)
+  f-walks : (C : Calls 𝓤 H) (Λ : Loops 𝓤 H) → FmC 𝓤 H (W .laws) C → Triple 𝓤 (C #variable-shape·set-master-phase-in) (SetIn 𝓤 H A at-mem run) → Walks 𝓤 H A f.ended stayed (WpFn 𝓤 H C Λ code.function) (f.clauses 𝓤 H A at-mem run)
   f-walks C Λ fm known = walked 𝓤 H A f.ended stayed (f.clauses 𝓤 H A at-mem run) (WpFn 𝓤 H C Λ code.function) (λ κs. (LL.vals T.the-type T′.the-laws, (float-vals binary32, tt))) (λ κs. (LL.tells T.the-type T′.the-laws, (float-tells binary32, tt)))
       (λ κs qs bounds a _ are. via 𝓤 _ (fst∗ 𝓤 _ (emp 𝓤)) (walk 𝓤 H A W at-mem run (a .0) (a .1 .0) (are .0) (are .1 .0 .1) C Λ fm known))
 
-f-meets : {M : Type 1} (𝓤 : URA M) (H : Heap 𝓤) (A : Atoms 𝓤) → Given 𝓤 H A → (at-mem : Memory → SProp 𝓤) (run : Routine → Fun 𝓤) (𝓣 : Tables 𝓤 H) → Triple 𝓤 (𝓣 .C #master-phase·set-master-phase-in) (SetIn 𝓤 H A at-mem run)
+f-meets : {M : Type 1} (𝓤 : URA M) (H : Heap 𝓤) (A : Atoms 𝓤) → Given 𝓤 H A → (at-mem : Memory → SProp 𝓤) (run : Routine → Fun 𝓤) (𝓣 : Tables 𝓤 H) → Triple 𝓤 (𝓣 .C #variable-shape·set-master-phase-in) (SetIn 𝓤 H A at-mem run)
     → Meets 𝓤 H A f.signature (WpFn 𝓤 H (𝓣 .C) (𝓣 .Λ) code.function) (f.spec 𝓤 H A at-mem run)
 f-meets 𝓤 H A W at-mem run 𝓣 known =
     walk-meets 𝓤 H A f.ended stayed W (goes-none 𝓤 H A W 0 (λ _. T.the-row) yes (λ κs x f. refl), (goes-none 𝓤 H A W 0 (λ _. f32) yes (λ κs x f. refl), tt)) (f.clauses 𝓤 H A at-mem run)
@@ -177,4 +177,4 @@ set-lent-spec 𝓤 H 𝓜 𝓖 𝓡 =
     entered 𝓤 H (tripleOf 𝓤 H (𝓖 .A) f.signature (f.spec 𝓤 H (𝓖 .A) (𝓜 .mem) (𝓡 .run)))
     (tables 𝓤 H 𝓜 𝓡 code.env .C) (tables 𝓤 H 𝓜 𝓡 code.env .Λ) #starts·setting·set-lent code.function (code.unfolded 𝓤 H 𝓜 𝓡)
     (f-meets 𝓤 H (𝓖 .A) (givenOf 𝓤 H 𝓜 𝓖) (𝓜 .mem) (𝓡 .run) (tablesOf 𝓤 H 𝓜 (tables 𝓤 H 𝓜 𝓡 code.env))
-    (cited 𝓤 H (SetIn 𝓤 H (𝓖 .A) (𝓜 .mem) (𝓡 .run)) 𝓜 𝓡 code.env #master-phase·set-master-phase-in g-def.routine code.calls-master-phase·set-master-phase-in (g-thm.met 𝓤 H 𝓜 𝓖 𝓡)))
+    (cited 𝓤 H (SetIn 𝓤 H (𝓖 .A) (𝓜 .mem) (𝓡 .run)) 𝓜 𝓡 code.env #variable-shape·set-master-phase-in g-def.routine code.calls-variable-shape·set-master-phase-in (g-thm.met 𝓤 H 𝓜 𝓖 𝓡)))

@@ -1,2 +1,0 @@
--- Two outcomes coincide.
-pub mod Tight

@@ -1,2 +1,0 @@
--- The setting of the master's phase.
-pub mod MasterPhase
