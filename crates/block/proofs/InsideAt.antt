@@ -10,7 +10,7 @@ use lib.Ieee.{Float, binary32, fits}
 use Rattle.rooms.specs.declared.Room.{Room}
 use Rattle.rooms.specs.Rooms.{inRoom}
 use Rattle.rooms.specs.Steps.{allIn}
-use Rattle.ranges.proofs.Bools.{and-both}
+use Rattle.floats.proofs.Bools.{and-both}
 use Rattle.block.specs.Fit.{Inside}
 
 pub record Stands (r : Room) (x : Float) : Type 0 where

@@ -1,5 +1,5 @@
 -- The laws of binary32 that the oscillators' proofs cite.
-pub mod Choices
+pub mod Bools
 pub mod Rounding
 pub mod Values
 pub mod Order

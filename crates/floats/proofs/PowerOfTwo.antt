@@ -12,7 +12,7 @@ use lib.Ieee.Fits.{down-pos}
 use lib.Ieee.Nearest.{div-same}
 use Rattle.floats.specs.F32.{_⊗_}
 use Rattle.floats.proofs.Rounding.{rnd, rnd-same, rnd-exact}
-use Rattle.floats.proofs.Values.{same-bool}
+use Rattle.floats.proofs.Bools.{same-bool}
 use Rattle.floats.proofs.At.{At, Reads, huge, at-even, mul-at}
 
 -- a product by 2 ^ b

@@ -6,11 +6,12 @@ use Prim.Native.Nat.{ℕ, _+_, _*_, _≤_, _<_}
 use native.Mathlib.Nat.{mul-comm, mul-assoc, mul-right-comm, add-mul, zero-mul, mul-pos, mul-le-mul-right, mul-lt-mul-of-pos-right, eq-or-lt-of-le, eq-of-mul-eq-mul-right, le-of-mul-le-mul-right, lt-of-mul-lt-mul-right}
 use native.Mathlib.Omega.{arith}
 use borrow.Author.Tests.{ltb-true, lt-ltb, le-ltb, eqb-true, eq-eqb, leb-true, le-leb}
-use mathlib.Core.Bool.{Bool, true, false, _&&_, _||_, true≢false}
+use mathlib.Core.Bool.{Bool, true, false, _&&_, _||_, true≢false, and-true}
 use lib.IntN.{ℤ}
 use lib.Dec.{ltb, leb, eqb}
 use lib.Ieee.{Float, nan, inf, fin, up, down, below, level, lt, le, eq}
 use lib.Ieee.Fits.{down-pos}
+use Rattle.floats.proofs.Bools.{and-both, same-bool}
 
 -- p - q has the size n, and is negative where s is true; zero has either sign
 abbrev pub Split : Bool → ℕ → ℕ → ℕ → Type 0
@@ -59,19 +60,6 @@ pub over-r : (U M n de dd : ℕ) → M * U ≡ n * dd → M * de * U ≡ n * (de
 over-r U M n de dd h = over-l U M n dd de h ∙ ap (λ (k : ℕ). n * k) (mul-comm dd de)
 
 -- ---- two tests that say the same
-pub same-bool : (b c : Bool) → (b ≡ true → c ≡ true) → (c ≡ true → b ≡ true) → b ≡ c
-same-bool true c f g = sym (f refl)
-same-bool false true f g = g refl
-same-bool false false f g = refl
-
-and-one : (b : Bool) → b && true ≡ b
-and-one true = refl
-and-one false = refl
-
-and-true : (b c : Bool) → b && c ≡ true → (b ≡ true) × (c ≡ true)
-and-true true c h = (refl, h)
-and-true false c h = absurd (true≢false (sym h))
-
 pub same-lt : (A B a b : ℕ) → (A < B → a < b) → (a < b → A < B) → ltb A B ≡ ltb a b
 same-lt A B a b f g = same-bool (ltb A B) (ltb a b) (λ h. lt-ltb a b (f (ltb-true A B h))) (λ h. lt-ltb A B (g (ltb-true a b h)))
 
@@ -101,14 +89,14 @@ module _ (U A B C a b p q r t : ℕ) (U-pos : 0 < U) (C-pos : 0 < C) (x : A * U 
 
   alike : (a ≡ b → p + t ≡ r + q) → (p + t ≡ r + q → a ≡ b) → eqb A B && true ≡ eqb (p + t) (r + q)
   alike f g =
-      and-one (eqb A B) ∙ same-eq A B (p + t) (r + q) (λ h. f (scale-eq U A B C a b C-pos x y h)) (λ h. scale-eq C a b U A B U-pos (sym x) (sym y) (g h))
+      and-true (eqb A B) ∙ same-eq A B (p + t) (r + q) (λ h. f (scale-eq U A B C a b C-pos x y h)) (λ h. scale-eq C a b U A B U-pos (sym x) (sym y) (g h))
 
   -- of unlike signs only zeros are equal
   apart : (a ≡ 0 → a ≡ b → p + t ≡ r + q) → (p + t ≡ r + q → (a ≡ 0) × (a ≡ b)) → eqb A B && eqb A 0 ≡ eqb (p + t) (r + q)
   apart f g =
       same-bool (eqb A B && eqb A 0) (eqb (p + t) (r + q))
       (λ h.
-      let k = and-true (eqb A B) (eqb A 0) h in
+      let k = and-both (eqb A B) (eqb A 0) h in
       eq-eqb (p + t) (r + q) (f (scale-eq U A 0 C a 0 C-pos x nought (eqb-true A 0 (k .1))) (scale-eq U A B C a b C-pos x y (eqb-true A B (k .0)))))
       (λ h.
       let k = g (eqb-true (p + t) (r + q) h) in

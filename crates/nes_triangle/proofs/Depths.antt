@@ -12,7 +12,7 @@ use lib.Dec.{leb, ltb, eqb, lit<}
 use lib.IntN.{ℤ, pos, negsuc, natAbs}
 use lib.Pow.{pow-mono, shl-exact}
 use lib.Signed.{ltZ}
-use Rattle.ranges.proofs.Bools.{and-both}
+use Rattle.floats.proofs.Bools.{and-both}
 use Rattle.nes_triangle.specs.Depth.{bitsIn, testedBits, topOf}
 use Rattle.nes_triangle.specs.Block.{stepIn}
 

@@ -11,7 +11,7 @@ use Rattle.floats.proofs.Turn.{Step}
 use Rattle.floats.proofs.Ranges.{Positive}
 use Rattle.rooms.specs.Steps.{allIn}
 use Rattle.rooms.proofs.RangeLaws.{frequency-step, step-frequency}
-use Rattle.ranges.proofs.Bools.{and-both}
+use Rattle.floats.proofs.Bools.{and-both}
 use Rattle.block.specs.Fit.{Inside}
 use Rattle.block.proofs.Plays.{one-most, Keeps}
 use Rattle.nes_triangle.specs.declared.State.{State}

@@ -10,7 +10,7 @@ use lib.Pow.{pow-pos}
 use lib.Ieee.{Float, lt, le, ofBits}
 use Rattle.floats.specs.F32.{zero32}
 use Rattle.floats.proofs.Ticks.{tick, cycle}
-use Rattle.ranges.proofs.Bools.{of-each}
+use Rattle.ranges.proofs.AllOf.{of-each}
 use Rattle.block.specs.Oscillator.{callOf}
 use Rattle.block.specs.Limits.{NeitherFallsNorCuts}
 use Rattle.block.specs.Account.{Phases32}

@@ -1,7 +1,7 @@
 -- A sample's phase and step. The product by the number of steps is exact, so that its whole part comes to that number exactly where the phase
 -- has come to 1; and a step that is below it then differs from the whole part, so that every such phase wraps. Assumes nothing.
 use mathlib.Core.Path.{_≡_, refl, sym, ap, _∙_, subst}
-use mathlib.Core.Bool.{Bool, true, false, not, _&&_}
+use mathlib.Core.Bool.{Bool, true, false, not, _&&_, and-false}
 use Prim.Native.Nat.{ℕ, _*_, _/_, _^_, _≤_, _<_, min}
 use native.Mathlib.Nat.{le-trans, lt-of-lt-of-le, mul-assoc, mul-comm, mul-le-mul-right, mul-lt-mul-of-pos-right, div-lt-iff-lt-mul}
 use native.Mathlib.Omega.{arith}
@@ -18,7 +18,7 @@ use Rattle.floats.proofs.PowerOfTwo.{mul-pow, unsigned-at, whole-pow}
 use Rattle.floats.proofs.WholeNumbers.{whole-at}
 use Rattle.whole_part.specs.WholePart.{wholePart, isWhole}
 use Rattle.block.specs.Counting.{oneIf}
-use Rattle.ranges.proofs.Bools.{and-both}
+use Rattle.floats.proofs.Bools.{and-both}
 use Rattle.nes_triangle.specs.declared.State.{State}
 use Rattle.nes_triangle.specs.declared.depth.Depth.{Depth}
 use Rattle.nes_triangle.specs.declared.sample.Turn.{Turn}
@@ -56,10 +56,6 @@ module _ {x : Float} {n : ℕ} (bits : ℕ) (few : bits ≤ 16) (p : At x n) (h 
 wraps : (whole step n : ℕ) → step < n → (not (eqb whole step) && leb n whole) ≡ leb n whole
 wraps whole step n h = go (leb n whole) refl
   where
-    and-false : (o : Bool) → (o && false) ≡ false
-    and-false true = refl
-    and-false false = refl
-
     go : (o : Bool) → leb n whole ≡ o → (not (eqb whole step) && o) ≡ o
     go true l = rw (ne-eqb whole step (λ e. omega (arith, leb-true n whole l)))
     go false l = and-false (not (eqb whole step))

@@ -1,3 +1,3 @@
--- Bools that tests join.
-pub mod Bools
+-- Tests that all pass, and contracts that determine.
+pub mod AllOf
 pub mod Tight

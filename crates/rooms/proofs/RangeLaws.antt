@@ -11,7 +11,7 @@ use Rattle.floats.proofs.Ranges.{Under, Positive, at-least-0, under-of, under-l
 use Rattle.rooms.specs.declared.Room.the-variants.{Frequency, PulseWidth}
 use Rattle.rooms.specs.Rooms.{inRoom}
 use Rattle.ranges.specs.Ranges.{phaseIn, frequencyIn, unitIn}
-use Rattle.ranges.proofs.Bools.{and-both}
+use Rattle.floats.proofs.Bools.{and-both}
 
 -- a phase that passed its test
 pub phase-under : {x : Float} → T (fits binary32 x) → phaseIn x ≡ true → Under x cycle

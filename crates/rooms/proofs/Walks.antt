@@ -1,7 +1,7 @@
 -- The walk's two loops, over plain lists: the inner one moves the interpolators of a sample, the outer one goes from sample to sample.
 -- Assumes nothing.
 use mathlib.Core.Path.{_≡_, refl, sym, _∙_, ap}
-use mathlib.Core.Bool.{Bool, true, false, not, _&&_}
+use mathlib.Core.Bool.{Bool, true, false, not, _&&_, and-assoc}
 use mathlib.Core.List.{List, [], _∷_, _++_, append-nil}
 use Prim.Native.Nat.{ℕ, suc, _+_, _-_, _≤_, _<_}
 use native.Mathlib.Numerals.{add-one}
@@ -22,17 +22,13 @@ unfolding allIn
 none-outside [] = refl
 none-outside (r ∷ rs) = refl
 
-and-assoc : (p q r : Bool) → (p && (q && r)) ≡ ((p && q) && r)
-and-assoc true q r = refl
-and-assoc false q r = refl
-
 -- all in their rooms: those before p, p, and those after it
 allIn-split : (rs : List Room) (r : Room) (before : List ParameterInterpolator) (p : ParameterInterpolator) (after : List ParameterInterpolator) → length before < length rs
     → allIn rs (values (before ++ p ∷ after)) ≡ (allIn rs (values before) && (inRoom (getD rs (length before) r) (p .value) && allIn (drop (suc (length before)) rs) (values after)))
 unfolding allIn values
 allIn-split [] r before p after h = absurd (omega arith)
 allIn-split (s ∷ rs) r [] p after h = refl
-allIn-split (s ∷ rs) r (q ∷ before) p after h = rw (allIn-split rs r before p after (omega arith)) (and-assoc (inRoom s (q .value)) _ _)
+allIn-split (s ∷ rs) r (q ∷ before) p after h = rw (allIn-split rs r before p after (omega arith)) (sym (and-assoc (inRoom s (q .value)) _ _))
 
 -- k of the interpolators have moved, each into its room
 pub record Moving (rs : List Room) (ps₀ : List ParameterInterpolator) (k : ℕ) (ps : List ParameterInterpolator) : Type 0 where

@@ -12,7 +12,8 @@ use Rattle.ranges.specs.Ranges.{within, parameterFrequencyIn, allOf}
 use Rattle.block.specs.Calls.{refusal, run}
 use Rattle.block.specs.Checks.{Check, FirstFailing, here, later, _unless_}
 use Rattle.block.specs.Oscillator.{callOf}
-use Rattle.ranges.proofs.Bools.{and-both, of-each}
+use Rattle.floats.proofs.Bools.{and-both}
+use Rattle.ranges.proofs.AllOf.{of-each}
 use Rattle.block.proofs.Ways.{refused-by, runs}
 use Rattle.string_synth.specs.declared.State.{State}
 use Rattle.string_synth.specs.Sample.{sampleAt}

@@ -16,7 +16,8 @@ use Rattle.rooms.specs.declared.Room.the-variants.{StringFrequency, Sixteen}
 use Rattle.ranges.specs.Ranges.{sixteenIn}
 use Rattle.rooms.specs.Rooms.{inRoom}
 use Rattle.rooms.specs.Steps.{allIn}
-use Rattle.ranges.proofs.Bools.{and-both, of-each}
+use Rattle.floats.proofs.Bools.{and-both}
+use Rattle.ranges.proofs.AllOf.{of-each}
 use Rattle.block.specs.Fit.{Inside}
 use Rattle.block.proofs.Plays.{Keeps}
 use Rattle.string_synth.specs.declared.State.{State}

@@ -7,7 +7,7 @@ use borrow.Author.Tests.{ltb-true, ltb-false}
 use lib.Dec.{ltb}
 use lib.Ieee.{Float, lt}
 use Rattle.floats.specs.F32.{_⊗_, half32}
-use Rattle.ranges.proofs.Bools.{and-both}
+use Rattle.floats.proofs.Bools.{and-both}
 use Rattle.string_synth.specs.declared.targets.Octave.{Octave}
 use Rattle.string_synth.specs.Targets.{halved, lowered}
 

@@ -1,6 +1,6 @@
 -- The loop over a registration's entries, and the gains that its places give, in plain values. Assumes nothing.
 use mathlib.Core.Path.{_≡_, refl, sym, ap, _∙_}
-use mathlib.Core.Bool.{Bool, true, false, _&&_}
+use mathlib.Core.Bool.{Bool, true, _&&_, and-true, and-assoc}
 use mathlib.Core.List.{List}
 use Prim.Native.Nat.{ℕ, _+_, _≤_, _<_}
 use native.Mathlib.Numerals.{add-one}
@@ -21,14 +21,6 @@ pub record Tested (xs : List Float) (inside : Bool) (i : ℕ) : Type 0 where
 
 pub tested-start : (xs : List Float) → Tested xs true 0
 tested-start xs = record { most = omega arith; same = refl }
-
-and-true : (p : Bool) → (p && true) ≡ p
-and-true true = refl
-and-true false = refl
-
-and-assoc : (p q r : Bool) → ((p && q) && r) ≡ (p && (q && r))
-and-assoc true q r = refl
-and-assoc false q r = refl
 
 module _ (xs : List Float) (inside : Bool) (i : ℕ) (t : Tested xs inside i) where
   pub tested-end : length xs ≤ i → inside ≡ registrationIn xs

@@ -9,7 +9,7 @@ use lib.Dec.{eqb, leb, lit≤}
 use lib.Pow.{pow-pos}
 use lib.Ieee.{Float, ne}
 use Rattle.floats.specs.F32.{_⊕_, zero32}
-use Rattle.floats.proofs.Values.{same-bool}
+use Rattle.floats.proofs.Bools.{same-bool}
 use Rattle.floats.proofs.At.{At}
 use Rattle.floats.proofs.Ticks.{tick, cycle}
 use Rattle.floats.proofs.PowerOfTwo.{unsigned-at, whole-le}

@@ -17,7 +17,7 @@ use Rattle.floats.proofs.Ticks.{tick, cycle, half-at, one-at, eight-at}
 use Rattle.floats.proofs.Ranges.{UpTo, upto-of, passed-lt, failed-lt, passes-lt, passes-le}
 use Rattle.floats.proofs.PowerOfTwo.{mul-pow}
 use Rattle.ranges.specs.Ranges.{parameterFrequencyIn}
-use Rattle.ranges.proofs.Bools.{and-both}
+use Rattle.floats.proofs.Bools.{and-both}
 use Rattle.string_synth.specs.declared.targets.Octave.{Octave}
 use Rattle.string_synth.specs.Targets.{halved, lowered}
 use Rattle.string_synth.proofs.Octaves.{octave, stops}

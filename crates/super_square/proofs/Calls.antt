@@ -12,7 +12,7 @@ use Rattle.block.specs.Calls.{Call, run}
 use Rattle.block.specs.Checks.{AllPass}
 use Rattle.block.specs.Oscillator.{checksOf}
 use Rattle.block.specs.Account.{Phases32}
-use Rattle.ranges.proofs.Bools.{each-of, of-each}
+use Rattle.ranges.proofs.AllOf.{each-of, of-each}
 use Rattle.rooms.proofs.RangeLaws.{phase-under, under-phase}
 use Rattle.block.proofs.Ways.{runs}
 use Rattle.super_square.specs.declared.State.{State}

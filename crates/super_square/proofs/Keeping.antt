@@ -15,7 +15,7 @@ use Rattle.block.specs.Counting.{oneIf}
 use Rattle.edges.specs.Sync.{transitionDuringReset, slaveAtReset, wrapOnce, cutEdge}
 use Rattle.rooms.specs.Steps.{allIn}
 use Rattle.rooms.proofs.RangeLaws.{frequency-step, step-frequency}
-use Rattle.ranges.proofs.Bools.{and-both}
+use Rattle.floats.proofs.Bools.{and-both}
 use Rattle.block.specs.Fit.{Inside}
 use Rattle.block.proofs.Plays.{one-most, Keeps}
 use Rattle.edges.proofs.Crossings.{Crossable, Crossed, crossed-of}

@@ -15,7 +15,8 @@ use Rattle.block.specs.Calls.{Call, run}
 use Rattle.block.specs.Checks.{AllPass}
 use Rattle.block.specs.Oscillator.{checksOf}
 use Rattle.block.specs.Account.{Phases32}
-use Rattle.ranges.proofs.Bools.{and-both, each-of, of-each}
+use Rattle.floats.proofs.Bools.{and-both}
+use Rattle.ranges.proofs.AllOf.{each-of, of-each}
 use Rattle.rooms.proofs.RangeLaws.{phase-under, under-phase}
 use Rattle.block.proofs.Ways.{runs}
 use Rattle.variable_saw.specs.declared.State.{State}

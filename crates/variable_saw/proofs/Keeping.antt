@@ -15,7 +15,7 @@ use Rattle.floats.proofs.Ranges.{Positive, passed-le, failed-le}
 use Rattle.ranges.specs.Ranges.{unitIn, waveshapeIn}
 use Rattle.block.specs.Limits.{Balanced}
 use Rattle.rooms.specs.Steps.{allIn}
-use Rattle.ranges.proofs.Bools.{and-both}
+use Rattle.floats.proofs.Bools.{and-both}
 use Rattle.block.specs.Fit.{Inside}
 use Rattle.block.proofs.Plays.{one-most, Keeps}
 use Rattle.rooms.proofs.RangeLaws.{frequency-step, step-frequency, width-unit}

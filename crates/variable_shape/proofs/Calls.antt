@@ -9,7 +9,7 @@ use Rattle.block.specs.Calls.{Call, run}
 use Rattle.block.specs.Checks.{AllPass}
 use Rattle.block.specs.Oscillator.{checksOf}
 use Rattle.block.specs.Account.{AllFit}
-use Rattle.ranges.proofs.Bools.{each-of}
+use Rattle.ranges.proofs.AllOf.{each-of}
 use Rattle.rooms.proofs.RangeLaws.{phase-under}
 use Rattle.block.proofs.Ways.{runs}
 use Rattle.variable_shape.specs.declared.State.{State}

@@ -20,7 +20,7 @@ use Rattle.block.specs.Limits.{Balanced}
 use Rattle.edges.specs.Sync.{transitionDuringReset, slaveAtReset, wrapOnce, cutEdge}
 use Rattle.block.specs.Fit.{Inside}
 use Rattle.block.proofs.Plays.{one-most, Keeps}
-use Rattle.ranges.proofs.Bools.{of-each}
+use Rattle.ranges.proofs.AllOf.{of-each}
 use Rattle.rooms.proofs.RangeLaws.{under-phase, frequency-step, step-frequency, width-step, step-width}
 use Rattle.block.proofs.InsideAt.{inside-at}
 use Rattle.block.proofs.Accounts.{OneSample}

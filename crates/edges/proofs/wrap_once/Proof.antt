@@ -1,5 +1,5 @@
 -- `edges::wrap_once` meets its contract: each way of the test is the definition's. Assumes nothing.
-use Rattle.floats.proofs.Choices.{chosen, other}
+use Rattle.floats.proofs.Bools.{chosen, other}
 use Rattle.edges.proofs.wrap_once.Statement.{statement}
 use Rattle.edges.proofs.wrap_once.Tie as tie
 

@@ -4,7 +4,7 @@ use mathlib.Core.Bool.{true, false}
 use lib.Ieee.{Float, lt}
 use borrow.Author.Needs.{needs}
 use Rattle.floats.specs.Helpers.{atLeast, clampOf}
-use Rattle.floats.proofs.Choices.{chosen, other}
+use Rattle.floats.proofs.Bools.{chosen, other}
 use Rattle.floats.proofs.clamp.Statement.{statement}
 use Rattle.floats.proofs.clamp.Tie as tie
 

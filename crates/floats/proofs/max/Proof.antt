@@ -1,5 +1,5 @@
 -- `floats::max` meets its contract: each way of the test is the definition's. Assumes nothing.
-use Rattle.floats.proofs.Choices.{chosen, other}
+use Rattle.floats.proofs.Bools.{chosen, other}
 use Rattle.floats.proofs.max.Statement.{statement}
 use Rattle.floats.proofs.max.Tie as tie
 

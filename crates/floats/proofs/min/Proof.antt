@@ -1,5 +1,5 @@
 -- `floats::min` meets its contract: each way of the test is the definition's. Assumes nothing.
-use Rattle.floats.proofs.Choices.{chosen, other}
+use Rattle.floats.proofs.Bools.{chosen, other}
 use Rattle.floats.proofs.min.Statement.{statement}
 use Rattle.floats.proofs.min.Tie as tie
 

@@ -1,6 +1,6 @@
 -- `nes_triangle::parameters_in` meets its contract. Assumes nothing.
 use mathlib.Core.List.{[], _∷_}
-use Rattle.ranges.proofs.Bools.{joined-all}
+use Rattle.ranges.proofs.AllOf.{joined-all}
 use Rattle.nes_triangle.specs.Block.{parametersIn}
 use borrow.Author.Needs.{needs}
 use Rattle.nes_triangle.proofs.parameters_in.Statement.{statement}

@@ -1,6 +1,6 @@
 -- `nes_triangle::state_in` meets its contract. Assumes nothing.
 use mathlib.Core.List.{[], _∷_}
-use Rattle.ranges.proofs.Bools.{joined-all}
+use Rattle.ranges.proofs.AllOf.{joined-all}
 use mir.Facts.{toZ-ofZ}
 use Rattle.nes_triangle.specs.Block.{stateIn}
 use borrow.Author.Needs.{needs}

@@ -1,5 +1,5 @@
 -- `nes_triangle_face::store` meets its contract. Assumes nothing.
-use Rattle.floats.proofs.Choices.{chosen, other}
+use Rattle.floats.proofs.Bools.{chosen, other}
 use Rattle.nes_triangle_face.proofs.store.Statement.{statement}
 use Rattle.nes_triangle_face.proofs.store.Tie as tie
 

@@ -1,6 +1,6 @@
 -- `string_synth::parameters_in` meets its contract. Assumes nothing.
 use mathlib.Core.List.{[], _∷_}
-use Rattle.ranges.proofs.Bools.{joined-all}
+use Rattle.ranges.proofs.AllOf.{joined-all}
 use Rattle.string_synth.specs.Block.{parametersIn}
 use borrow.Author.Needs.{needs}
 use Rattle.string_synth.proofs.parameters_in.Statement.{statement}

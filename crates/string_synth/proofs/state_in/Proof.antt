@@ -1,6 +1,6 @@
 -- `string_synth::state_in` meets its contract. Assumes nothing.
 use mathlib.Core.List.{[], _∷_}
-use Rattle.ranges.proofs.Bools.{joined-all}
+use Rattle.ranges.proofs.AllOf.{joined-all}
 use Rattle.string_synth.specs.Block.{stateIn}
 use borrow.Author.Needs.{needs}
 use Rattle.string_synth.proofs.state_in.Statement.{statement}

@@ -1,5 +1,5 @@
 -- `string_synth_face::store` meets its contract. Assumes nothing.
-use Rattle.floats.proofs.Choices.{chosen, other}
+use Rattle.floats.proofs.Bools.{chosen, other}
 use Rattle.string_synth_face.proofs.store.Statement.{statement}
 use Rattle.string_synth_face.proofs.store.Tie as tie
 

@@ -1,6 +1,6 @@
 -- `super_square::parameters_in` meets its contract. Assumes nothing.
 use mathlib.Core.List.{[], _∷_}
-use Rattle.ranges.proofs.Bools.{joined-all}
+use Rattle.ranges.proofs.AllOf.{joined-all}
 use Rattle.super_square.specs.Block.{parametersIn}
 use borrow.Author.Needs.{needs}
 use Rattle.super_square.proofs.parameters_in.Statement.{statement}

@@ -1,6 +1,6 @@
 -- `super_square::state_in` meets its contract. Assumes nothing.
 use mathlib.Core.List.{[], _∷_}
-use Rattle.ranges.proofs.Bools.{joined-all}
+use Rattle.ranges.proofs.AllOf.{joined-all}
 use Rattle.super_square.specs.Block.{stateIn}
 use borrow.Author.Needs.{needs}
 use Rattle.super_square.proofs.state_in.Statement.{statement}

@@ -1,5 +1,5 @@
 -- `super_square_face::store` meets its contract. Assumes nothing.
-use Rattle.floats.proofs.Choices.{chosen, other}
+use Rattle.floats.proofs.Bools.{chosen, other}
 use Rattle.super_square_face.proofs.store.Statement.{statement}
 use Rattle.super_square_face.proofs.store.Tie as tie
 

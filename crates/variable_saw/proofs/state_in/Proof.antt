@@ -1,6 +1,6 @@
 -- `variable_saw::state_in` meets its contract. Assumes nothing.
 use mathlib.Core.List.{[], _∷_}
-use Rattle.ranges.proofs.Bools.{joined-all}
+use Rattle.ranges.proofs.AllOf.{joined-all}
 use Rattle.variable_saw.specs.Block.{stateIn}
 use borrow.Author.Needs.{needs}
 use Rattle.variable_saw.proofs.state_in.Statement.{statement}

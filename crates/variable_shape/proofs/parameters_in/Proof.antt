@@ -1,7 +1,7 @@
 -- `variable_shape::parameters_in` meets its contract. Assumes nothing.
 use Rattle.variable_shape.specs.Block.{parametersIn}
 use mathlib.Core.List.{[], _∷_}
-use Rattle.ranges.proofs.Bools.{joined-all}
+use Rattle.ranges.proofs.AllOf.{joined-all}
 use borrow.Author.Needs.{needs}
 use Rattle.variable_shape.proofs.parameters_in.Statement.{statement}
 use Rattle.variable_shape.proofs.parameters_in.Tie as tie

@@ -1,7 +1,7 @@
 -- `variable_shape::state_in` meets its contract. Assumes nothing.
 use Rattle.variable_shape.specs.Block.{stateIn}
 use mathlib.Core.List.{[], _∷_}
-use Rattle.ranges.proofs.Bools.{joined-all}
+use Rattle.ranges.proofs.AllOf.{joined-all}
 use borrow.Author.Needs.{needs}
 use Rattle.variable_shape.proofs.state_in.Statement.{statement}
 use Rattle.variable_shape.proofs.state_in.Tie as tie

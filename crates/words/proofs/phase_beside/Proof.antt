@@ -2,7 +2,7 @@
 use mathlib.Core.Path.{_∙_}
 use borrow.Author.Needs.{needs}
 use borrow.Author.Tests.{lt-ltb, le-ltb}
-use Rattle.floats.proofs.Choices.{chosen, other}
+use Rattle.floats.proofs.Bools.{chosen, other}
 use Rattle.words.proofs.phase_beside.Statement.{statement}
 use Rattle.words.proofs.phase_beside.Tie as tie
 

@@ -1,7 +1,7 @@
 -- `ranges::targets::clamp_width` meets its contract: each way of the test is the definition's. Assumes nothing.
 use mathlib.Core.Path.{_∙_}
 use borrow.Author.Needs.{needs}
-use Rattle.floats.proofs.Choices.{chosen, other}
+use Rattle.floats.proofs.Bools.{chosen, other}
 use Rattle.ranges.proofs.targets.clamp_width.Statement.{statement}
 use Rattle.ranges.proofs.targets.clamp_width.Tie as tie
 

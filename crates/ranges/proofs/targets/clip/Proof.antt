@@ -1,5 +1,5 @@
 -- `ranges::targets::clip` meets its contract: each way of the test is the definition's. Assumes nothing.
-use Rattle.floats.proofs.Choices.{chosen, other}
+use Rattle.floats.proofs.Bools.{chosen, other}
 use Rattle.ranges.proofs.targets.clip.Statement.{statement}
 use Rattle.ranges.proofs.targets.clip.Tie as tie
 

@@ -1,13 +1,9 @@
--- Small facts of bools, for tests that are joined. Assumes nothing.
-use mathlib.Core.Path.{_≡_, refl, sym, subst, _∙_}
-use mathlib.Core.Bool.{Bool, true, false, _&&_, cond, and-assoc, and-true}
+-- Tests that all pass, and tests joined one after the other. Assumes nothing.
+use mathlib.Core.Path.{_≡_, refl, sym, _∙_}
+use mathlib.Core.Bool.{Bool, true, _&&_, and-assoc, and-true}
 use mathlib.Core.List.{List, [], _∷_}
-use lib.Dec.{T}
+use Rattle.floats.proofs.Bools.{and-both}
 use Rattle.ranges.specs.Ranges.{allOf}
-
-pub and-both : (p q : Bool) → (p && q) ≡ true → (p ≡ true) × (q ≡ true)
-and-both true q h = (refl, h)
-and-both false q h = absurd (subst T (sym h) tt)
 
 -- of tests that all pass, each passes
 abbrev pub Each : List Bool → Type 0
@@ -33,8 +29,3 @@ pub joined-all : (b : Bool) (bs : List Bool) → joined b bs ≡ allOf (b ∷ bs
 unfolding allOf
 joined-all b [] = sym (and-true b)
 joined-all b (c ∷ cs) = joined-all (b && c) cs ∙ and-assoc b c (allOf cs)
-
--- what holds of both holds of the one that a test picks
-pub cond-both : {A : Type 0} (P : A → Type 0) (b : Bool) (x y : A) → P x → P y → P (cond b x y)
-cond-both P true x y p q = p
-cond-both P false x y p q = q
