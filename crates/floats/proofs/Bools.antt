@@ -12,14 +12,6 @@ same-bool true c f g = sym (f refl)
 same-bool false true f g = g refl
 same-bool false false f g = refl
 
--- what the outcome of a test says of a definition that chooses by the same test
-module _ {X : Type 0} (b : Bool) (x y : X) where
-  pub chosen : b ≡ true → x ≡ cond b x y
-  chosen h = rw h refl
-
-  pub other : b ≡ false → y ≡ cond b x y
-  other h = rw h refl
-
 -- what holds of both holds of the one that a test picks
 pub cond-both : {A : Type 0} (P : A → Type 0) (b : Bool) (x y : A) → P x → P y → P (cond b x y)
 cond-both P true x y p q = p

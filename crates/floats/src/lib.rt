@@ -4,19 +4,21 @@ ghost use lib.Ieee.{binary32, toBits};
 ghost use Rattle.floats.specs.F32.{f32};
 ghost use Rattle.floats.specs.Helpers.{minOf, maxOf, atLeast, clampOf, absOf};
 
+// A NaN gives way to a number. Of two equal values it is the second: Rust leaves open which zero is the less.
 pub fn min(x: f32, y: f32) -> f32
     ensures { λ r. ⌜ r ≡ minOf x y ⌝ }
 {
     if (x < y) | (y != y) { x } else { y }
 }
 
+// As `min`, with the test turned round.
 pub fn max(x: f32, y: f32) -> f32
     ensures { λ r. ⌜ r ≡ maxOf x y ⌝ }
 {
     if (y < x) | (y != y) { x } else { y }
 }
 
-// At least `low`, and then at most `high`.
+// At least `low`, and then at most `high`. A NaN stays one. Rust panics where `low` is above `high`; this gives `high`.
 pub fn clamp(x: f32, low: f32, high: f32) -> f32
     ensures { λ r. ⌜ r ≡ clampOf x low high ⌝ }
 {
@@ -24,6 +26,7 @@ pub fn clamp(x: f32, low: f32, high: f32) -> f32
     if high < raised { high } else { raised }
 }
 
+// A function of its own, so that `clamp` has one test and what it tests is a call's result.
 fn at_least(x: f32, low: f32) -> f32
     ensures { λ r. ⌜ r ≡ atLeast x low ⌝ }
 {

@@ -3,13 +3,9 @@ use mathlib.Core.Path.{refl}
 use Rattle.floats.proofs.Contracts.{Determines, coincide}
 use Rattle.parameter_interpolator.proofs.ParameterInterpolator.new
 use Rattle.parameter_interpolator.proofs.ParameterInterpolator.next
-use Rattle.parameter_interpolator.proofs.ParameterInterpolator.write_back
 
 pub new-tight : Determines new.ended new.Reads.Learnt
 new-tight κs a r q v w h k = (coincide h k, refl)
 
 pub next-tight : Determines next.ended next.Reads.Learnt
 next-tight κs a r q v w h k = (coincide h k, refl)
-
-pub write-back-tight : Determines write_back.ended write_back.Reads.Learnt
-write-back-tight κs a r q v w h k = (coincide h k, refl)

@@ -1,4 +1,5 @@
--- The source's utils/parameter_interpolator.rs, lines 14 to 21, 41 to 44 and 52 to 56: a value that moves towards a target by one increment at a time. Assumes nothing.
+-- The source's utils/parameter_interpolator.rs, lines 14 to 21 and 41 to 44: a value that moves towards a target by one increment at a time. What `drop` stores, lines 52 to 56,
+-- is the value as it then stands: a state keeps it. Assumes nothing.
 use Prim.Native.Nat.{ℕ}
 use lib.Ieee.{Float}
 use Rattle.floats.specs.F32.{whole32, _⊕_, _⊖_, _⊘_}
@@ -11,7 +12,3 @@ newInterpolator value newValue n = record { value = value; increment = (newValue
 -- `next`, lines 41 to 44: the increment is added once
 abbrev pub nextInterpolator : ParameterInterpolator → ParameterInterpolator
 nextInterpolator p = record { value = p .value ⊕ p .increment; increment = p .increment }
-
--- the write-back, lines 52 to 56: what `drop` stores
-abbrev pub writtenBack : ParameterInterpolator → Float
-writtenBack p = p .value

@@ -1,2 +1,2 @@
--- The source's ParameterInterpolator: `new`, `next` and the write-back.
+-- The source's ParameterInterpolator: `new` and `next`.
 pub mod Interpolator

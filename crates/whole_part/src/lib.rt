@@ -6,6 +6,8 @@ ghost use lib.Ieee.{le, lt};
 ghost use Rattle.floats.specs.F32.{f32, one32};
 ghost use Rattle.whole_part.specs.WholePart.{wholePart};
 
+// A NaN and what lies below 1 fail both tests and give 0, as in Rust. The top is tested first, so that the bits are asked only for numbers
+// with at most 17 digits before the point.
 pub fn whole_part(x: f32) -> u32
     ensures { λ r. ⌜ r ≡ wholePart x ⌝ }
 {
@@ -15,7 +17,7 @@ pub fn whole_part(x: f32) -> u32
     if x >= 1.0 { digits_before_point(x) } else { 0 }
 }
 
-// How many of the 23 binary digits stand before the point, and those digits with the leading one.
+// The leading one, which the bits leave out, and of the 23 digits behind it those before the point.
 fn digits_before_point(x: f32) -> u32
     requires { ⌜ (le one32 x ≡ true) × (lt x (f32 0x4800_0000) ≡ true) ⌝ }
     ensures { λ r. ⌜ r ≡ wholePart x ⌝ }
@@ -25,7 +27,7 @@ fn digits_before_point(x: f32) -> u32
     (bits % 0x80_0000 + 0x80_0000) >> (23 - before)
 }
 
-// The exponent of a number from 1 up: the fields of the exponents from 1 on, 2^23 apart, one by one.
+// The exponent of a number from 1 up: the field's values from 127 on are tried one by one, 17 at most, which the proof follows without a shift.
 fn exponent(bits: u32) -> u32
     requires { ⌜ (1065353216 ≤ bits) × (bits < 1207959552) ⌝ }
     ensures { λ r. ⌜ (1065353216 + r * 8388608 ≤ bits) × (bits < 1065353216 + (r + 1) * 8388608) ⌝ }

@@ -51,14 +51,10 @@ above (fin true m e) h k =
     let b : m * up e * 1 ≡ 0 = omega (arith, z) in
     absurd (subst T k (and-i (eqb (m * up e * 1) (0 * 1 * down e)) (eqb (m * up e * 1) 0) (eq→eqb a) (eq→eqb b)))
 
-returns : tie.Need-returns
-returns c = below _ (c .if1 .taken)
-
-returns-2 : tie.Need-returns-2
-returns-2 c = equal _ (subst T (sym (c .before .before .good .0 .1)) tt) (c .if2 .taken)
-
-returns-3 : tie.Need-returns-3
-returns-3 c = above _ (c .before .if1 .left) (c .if2 .left)
-
 pub abs-spec : {M : Type 1} → statement M
-abs-spec = tie.close (tie.spec returns returns-2 returns-3)
+abs-spec =
+    tie.close
+    (tie.spec
+    (λ c. below _ (c .if1 .taken))
+    (λ c. equal _ (subst T (sym (c .before .before .good .0 .1)) tt) (c .if2 .taken))
+    (λ c. above _ (c .before .if1 .left) (c .if2 .left)))

@@ -1,13 +1,6 @@
 -- `floats::max` meets its contract: each way of the test is the definition's. Assumes nothing.
-use Rattle.floats.proofs.Bools.{chosen, other}
 use Rattle.floats.proofs.max.Statement.{statement}
 use Rattle.floats.proofs.max.Tie as tie
 
-returns : tie.Need-returns
-returns c = chosen _ _ _ (c .if1 .taken)
-
-returns-2 : tie.Need-returns-2
-returns-2 c = other _ _ _ (c .if1 .left)
-
 pub max-spec : {M : Type 1} → statement M
-max-spec = tie.close (tie.spec returns returns-2)
+max-spec = tie.close (tie.spec (λ c. rw (c .if1 .taken)) (λ c. rw (c .if1 .left)))

@@ -1,13 +1,12 @@
 -- `nes_triangle_face::store` meets its contract. Assumes nothing.
-use Rattle.floats.proofs.Bools.{chosen, other}
 use Rattle.nes_triangle_face.proofs.store.Statement.{statement}
 use Rattle.nes_triangle_face.proofs.store.Tie as tie
 
 returns : tie.Need-returns
-returns c = chosen _ _ _ (c .if1 .taken)
+returns c = rw (c .if1 .taken)
 
 returns-2 : tie.Need-returns-2
-returns-2 c = other _ _ _ (c .if1 .left)
+returns-2 c = rw (c .if1 .left)
 
 pub store-spec : {M : Type 1} → statement M
 store-spec = tie.close (tie.spec returns returns-2)

@@ -2,15 +2,14 @@
 use mathlib.Core.Path.{_∙_}
 use borrow.Author.Needs.{needs}
 use borrow.Author.Tests.{lt-ltb, le-ltb}
-use Rattle.floats.proofs.Bools.{chosen, other}
 use Rattle.words.proofs.phase_beside.Statement.{statement}
 use Rattle.words.proofs.phase_beside.Tie as tie
 
 returns : tie.Need-returns
-returns c = chosen _ _ _ (lt-ltb 1 _ (c .if1 .taken))
+returns c = rw (lt-ltb 1 _ (c .if1 .taken))
 
 returns-2 : tie.Need-returns-2
-returns-2 c = c .from-bits .ensures ∙ other _ _ _ (le-ltb 1 _ (c .before .if1 .left))
+returns-2 c = rw (le-ltb 1 _ (c .before .if1 .left)) (c .from-bits .ensures)
 
 pub phase-beside-spec : {M : Type 1} → statement M
 phase-beside-spec = tie.close (tie.spec (λ c κs. search needs) returns returns-2)

@@ -1,13 +1,12 @@
 -- `edges::triangle::triangle` meets its contract: each way of the test is the definition's. Assumes nothing.
-use Rattle.floats.proofs.Bools.{chosen, other}
 use Rattle.edges.proofs.triangle.triangle.Statement.{statement}
 use Rattle.edges.proofs.triangle.triangle.Tie as tie
 
 returns : tie.Need-returns
-returns c = chosen _ _ _ (c .if1 .taken)
+returns c = rw (c .if1 .taken)
 
 returns-2 : tie.Need-returns-2
-returns-2 c = other _ _ _ (c .if1 .left)
+returns-2 c = rw (c .if1 .left)
 
 pub triangle-spec : {M : Type 1} → statement M
 triangle-spec = tie.close (tie.spec returns returns-2)

@@ -1,13 +1,6 @@
 -- `ranges::targets::clip` meets its contract: each way of the test is the definition's. Assumes nothing.
-use Rattle.floats.proofs.Bools.{chosen, other}
 use Rattle.ranges.proofs.targets.clip.Statement.{statement}
 use Rattle.ranges.proofs.targets.clip.Tie as tie
 
-returns : tie.Need-returns
-returns c = chosen _ _ _ (c .if1 .taken)
-
-returns-2 : tie.Need-returns-2
-returns-2 c = other _ _ _ (c .if1 .left)
-
 pub clip-spec : {M : Type 1} → statement M
-clip-spec = tie.close (tie.spec returns returns-2)
+clip-spec = tie.close (tie.spec (λ c. rw (c .if1 .taken)) (λ c. rw (c .if1 .left)))
