@@ -2,7 +2,7 @@
 -- has come to 1; and a step that is below it then differs from the whole part, so that every such phase wraps. Assumes nothing.
 use mathlib.Core.Path.{_≡_, refl, sym, ap, _∙_, subst}
 use mathlib.Core.Bool.{Bool, true, false, not, _&&_, and-false}
-use Prim.Native.Nat.{ℕ, _*_, _/_, _^_, _≤_, _<_, min}
+use Prim.Native.Nat.{ℕ, _*_, _/_, _^_, _≤_, _<_}
 use native.Mathlib.Nat.{le-trans, lt-of-lt-of-le, mul-assoc, mul-comm, mul-le-mul-right, mul-lt-mul-of-pos-right, div-lt-iff-lt-mul}
 use native.Mathlib.Omega.{arith}
 use borrow.Author.Tests.{leb-true, leb-false, ne-eqb}
@@ -14,9 +14,10 @@ use Rattle.floats.specs.F32.{whole32, _⊕_, _⊗_}
 use Rattle.floats.proofs.At.{At}
 use Rattle.floats.proofs.Ticks.{tick, cycle, cycle-is, tick-pos, Sum}
 use Rattle.floats.proofs.Turn.{Step, turn-1, turn-sum, turn-by}
-use Rattle.floats.proofs.PowerOfTwo.{mul-pow, unsigned-at, whole-pow}
+use Rattle.floats.proofs.PowerOfTwo.{mul-pow, whole-pow}
 use Rattle.floats.proofs.WholeNumbers.{whole-at}
 use Rattle.whole_part.specs.WholePart.{wholePart, isWhole}
+use Rattle.whole_part.proofs.Exact.{whole-part-at}
 use Rattle.block.specs.Counting.{oneIf}
 use Rattle.floats.proofs.Bools.{and-both}
 use Rattle.nes_triangle.specs.declared.State.{State}
@@ -26,9 +27,6 @@ use Rattle.nes_triangle.specs.Depth.{depthOf}
 use Rattle.nes_triangle.specs.Sample.{wrapPhase, wrapStep, turnOf}
 use Rattle.nes_triangle.specs.Private.{Ready}
 use Rattle.nes_triangle.proofs.Depths.{few-steps, top-most}
-
-uncapped : (n c : ℕ) → n < c → min n c ≡ n
-uncapped n c h = omega arith
 
 -- ---- the whole part of a phase of n units, below 2, times the number of steps
 module _ {x : Float} {n : ℕ} (bits : ℕ) (few : bits ≤ 16) (p : At x n) (h : n < 2 * cycle) where
@@ -48,9 +46,7 @@ module _ {x : Float} {n : ℕ} (bits : ℕ) (few : bits ≤ 16) (p : At x n) (h 
   product = mul-pow bits p (whole-at (2 ^ bits) (le-trans (few-steps bits few) (lit≤ tt))) (lt-of-lt-of-le below (le-trans (mul-le-mul-right (2 ^ 149) most) (lit≤ tt)))
 
   pub whole-is : wholePart (x ⊗ whole32 (2 ^ bits)) ≡ n * 2 ^ bits / 2 ^ 149
-  whole-is =
-      let l : n * 2 ^ bits / 2 ^ 149 < 131072 = lt-of-lt-of-le whole-under most in
-      ap (λ (k : ℕ). min k 131072) (unsigned-at 32 product (lt-of-lt-of-le l (lit≤ tt))) ∙ uncapped (n * 2 ^ bits / 2 ^ 149) 131072 l
+  whole-is = whole-part-at product (lt-of-lt-of-le whole-under most)
 
 -- ---- the wrap, from the old step and the whole part
 wraps : (whole step n : ℕ) → step < n → (not (eqb whole step) && leb n whole) ≡ leb n whole

@@ -55,7 +55,6 @@ module _ (s : State) (saws : Saws) (h : Ready s (saws .frequency)) where
 
   -- within a segment there is no wrap, since no segment is 8
   stay-law : isWhole (wholePart reached) (s .segment) ≡ true → Law (h .valid .phase .n) (h .step .n) (stayed s reached (wholePart reached))
-  unfolding stayed
   stay-law l =
       let k : wholePart reached ≡ h .valid .k = eqb-true (wholePart reached) (h .valid .k) (rw (h .valid .segment) at l) in
       let under : wholePart reached < 8 = omega (arith, k, h .valid .below) in

@@ -1,7 +1,7 @@
 -- Segments: a whole part and the segment of a state, what crossing into a segment leaves as it is, and where a cycle ends. Assumes nothing.
 use mathlib.Core.Path.{_≡_, refl, ap, _∙_}
 use mathlib.Core.Bool.{Bool, true, false, cond}
-use Prim.Native.Nat.{ℕ, _-_, _*_, _/_, _^_, _≤_, _<_, min}
+use Prim.Native.Nat.{ℕ, _-_, _*_, _/_, _^_, _≤_, _<_}
 use native.Mathlib.Nat.{lt-of-lt-of-le, div-lt-iff-lt-mul}
 use native.Mathlib.Omega.{arith}
 use borrow.Author.Tests.{eqb-true, leb-true, le-leb, eq-eqb}
@@ -12,8 +12,9 @@ use Rattle.floats.specs.F32.{_⊕_, zero32}
 use Rattle.floats.proofs.Bools.{same-bool}
 use Rattle.floats.proofs.At.{At}
 use Rattle.floats.proofs.Ticks.{tick, cycle}
-use Rattle.floats.proofs.PowerOfTwo.{unsigned-at, whole-le}
+use Rattle.floats.proofs.PowerOfTwo.{whole-le}
 use Rattle.whole_part.specs.WholePart.{wholePart, isWhole}
+use Rattle.whole_part.proofs.Exact.{whole-part-at}
 use Rattle.string_synth.specs.declared.State.{State}
 use Rattle.string_synth.specs.declared.sample.Saws.{Saws}
 use Rattle.string_synth.specs.declared.sample.Reached.{Reached}
@@ -53,7 +54,7 @@ wrapped-small whole h = go (eqb whole 8)
 
 -- so that an i32 holds it
 pub reached-small : (s : State) (saws : Saws) → reachedOf s saws .segment ≤ 131072
-unfolding reachedOf stayed
+unfolding reachedOf
 reached-small s saws = go (isWhole whole (s .segment))
   where
     phase : Float
@@ -74,9 +75,6 @@ pub record Whole (n whole : ℕ) : Type 0 where
   pub most : whole ≤ 8
   pub eight : eqb whole 8 ≡ leb (8 * cycle) n
 
-uncapped : (k : ℕ) → k < 9 → min k 131072 ≡ k
-uncapped k h = omega arith
-
 at-most : (w k : ℕ) → w ≡ k → k < 9 → w ≤ 8
 at-most w k e h = omega arith
 
@@ -88,5 +86,5 @@ unfolding tick
 whole-law {x} {n} p h =
     let k = n / 2 ^ 149 in
     let top : k < 9 = div-lt-iff-lt-mul (pow-pos 149) .1 h in
-    let is : wholePart x ≡ k = ap (λ (i : ℕ). min i 131072) (unsigned-at 32 p (lt-of-lt-of-le top (lit≤ tt))) ∙ uncapped k top in
+    let is : wholePart x ≡ k = whole-part-at p (lt-of-lt-of-le top (lit≤ tt)) in
     record { most = at-most (wholePart x) k is top; eight = ap (λ (i : ℕ). eqb i 8) is ∙ last k top ∙ whole-le 8 n }

@@ -56,7 +56,7 @@ unfoldable pub softened : Reached → Float → Float → Reached
 softened e discontinuity frequency = cond (ne discontinuity zero32) (blepOf e discontinuity frequency) e
 
 -- within a segment, lines 107, 108 and 139: this sample starts with what the last one left for it, and the next from 0
-unfoldable pub stayed : State → Float → ℕ → Reached
+abbrev pub stayed : State → Float → ℕ → Reached
 stayed s phase whole = record {
   phase = phase;
   segment = whole;

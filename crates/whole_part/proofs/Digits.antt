@@ -16,8 +16,8 @@ use Rattle.floats.proofs.At.{At, Reads, at-even}
 use Rattle.floats.proofs.Order.{le-trans}
 use Rattle.floats.proofs.Ticks.{tick, one-at, pow-lt-inv, coarse}
 use Rattle.floats.proofs.Ranges.{under-of, at-least-0, passed-le}
-use Rattle.floats.proofs.PowerOfTwo.{unsigned-at}
 use Rattle.whole_part.specs.WholePart.{wholePart}
+use Rattle.whole_part.proofs.Exact.{whole-part-at}
 
 -- the bits of a value of n units, 1 or more
 bits-is : (x : Float) (n : ℕ) → Reads x n → 2 ^ 149 ≤ n → toBits binary32 x ≡ (size n - 24) * 8388608 + n / 2 ^ (size n - 24)
@@ -71,9 +71,6 @@ top-at : At (f32 0x4800_0000) (2 ^ 166)
 unfolding fits ofBits
 top-at = record { fit = tt; reads = refl }
 
-uncapped : (n : ℕ) → n < 131072 → min n 131072 ≡ n
-uncapped n h = omega arith
-
 pub between : (x : Float) → T (fits binary32 x) → (le one32 x ≡ true) × (lt x (f32 0x4800_0000) ≡ true) → Between x
 unfolding tick
 between x t h =
@@ -82,7 +79,7 @@ between x t h =
     record {
       n = u .n;
       digits = written (u .at) (passed-le one-at (u .at) (h .0)) (u .under);
-      whole = ap (λ (n : ℕ). min n 131072) (unsigned-at 32 (u .at) (lt-of-lt-of-le small (lit≤ tt))) ∙ uncapped (u .n / 2 ^ 149) small;
+      whole = whole-part-at (u .at) small;
     }
 
 -- the exponent is what the bits' field says, and of the 24 digits as many stand before the point

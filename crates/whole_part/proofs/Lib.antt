@@ -1,4 +1,5 @@
 -- What the bits of a float say of its whole part, and what it is where no bits are asked.
+pub mod Exact
 pub mod Digits
 pub mod Outside
 pub mod Held

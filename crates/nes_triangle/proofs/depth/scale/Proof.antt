@@ -4,12 +4,11 @@ use borrow.Author.Needs.{needs}
 use Rattle.nes_triangle.proofs.depth.scale.Statement.{statement}
 use Rattle.nes_triangle.proofs.depth.scale.Tie as tie
 
-returns : tie.Need-returns
-returns c = rw (ne-eqb _ 2 (c .before .if1 .taken), c .nearest-u32-to-f32 .ensures)
-
-returns-2 : tie.Need-returns-2
-returns-2 c = rw (eq-eqb _ 2 (c .if1 .left))
-
 pub scale-spec : {M : Type 1} → statement M
 scale-spec =
-    tie.close (tie.spec (λ c. search needs) (λ c κs. search needs) returns returns-2)
+    tie.close
+    (tie.spec
+    (λ c. search needs)
+    (λ c κs. search needs)
+    (λ c. rw (ne-eqb _ 2 (c .before .if1 .taken), c .nearest-u32-to-f32 .ensures))
+    (λ c. rw (eq-eqb _ 2 (c .if1 .left))))

@@ -4,8 +4,5 @@ use borrow.Author.Needs.{needs}
 use Rattle.nes_triangle.proofs.depth.steps.Statement.{statement}
 use Rattle.nes_triangle.proofs.depth.steps.Tie as tie
 
-returns : tie.Need-returns
-returns c = shifted _ (c .pre)
-
 pub steps-spec : {M : Type 1} → statement M
-steps-spec = tie.close (tie.spec (λ c. search needs) returns)
+steps-spec = tie.close (tie.spec (λ c. search needs) (λ c. shifted _ (c .pre)))

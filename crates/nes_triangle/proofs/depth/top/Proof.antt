@@ -4,11 +4,5 @@ use borrow.Author.Needs.{needs}
 use Rattle.nes_triangle.proofs.depth.top.Statement.{statement}
 use Rattle.nes_triangle.proofs.depth.top.Tie as tie
 
-returns : tie.Need-returns
-returns c = rw (ne-eqb _ 2 (c .if1 .taken))
-
-returns-2 : tie.Need-returns-2
-returns-2 c = rw (eq-eqb _ 2 (c .if1 .left))
-
 pub top-spec : {M : Type 1} → statement M
-top-spec = tie.close (tie.spec (λ c. search needs) returns returns-2)
+top-spec = tie.close (tie.spec (λ c. search needs) (λ c. rw (ne-eqb _ 2 (c .if1 .taken))) (λ c. rw (eq-eqb _ 2 (c .if1 .left))))

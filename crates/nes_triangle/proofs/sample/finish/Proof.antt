@@ -9,9 +9,6 @@ use borrow.Author.Needs.{needs}
 use Rattle.nes_triangle.proofs.sample.finish.Statement.{statement}
 use Rattle.nes_triangle.proofs.sample.finish.Tie as tie
 
-cast-t14 : tie.Need-cast-t14
-cast-t14 c = record { sfits = omega (arith, c .before .before .before .before .before .before .before .pre .1) }
-
 returns : tie.Need-returns
 unfolding finish
 returns c =
@@ -29,7 +26,7 @@ finish-spec =
     (λ c κs. search needs)
     (λ c κs. search needs)
     (λ c κs. search needs)
-    cast-t14
+    (λ c. search needs)
     (λ c κs. search needs)
     (λ c κs. search needs)
     returns)

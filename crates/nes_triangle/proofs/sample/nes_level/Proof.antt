@@ -4,11 +4,5 @@ use borrow.Author.Needs.{needs}
 use Rattle.nes_triangle.proofs.sample.nes_level.Statement.{statement}
 use Rattle.nes_triangle.proofs.sample.nes_level.Tie as tie
 
-returns : tie.Need-returns
-returns c = rw (lt-ltb _ _ (c .if1 .taken))
-
-returns-2 : tie.Need-returns-2
-returns-2 c = rw (le-ltb _ _ (c .if1 .left))
-
 pub nes-level-spec : {M : Type 1} → statement M
-nes-level-spec = tie.close (tie.spec (λ c. search needs) returns returns-2)
+nes-level-spec = tie.close (tie.spec (λ c. search needs) (λ c. rw (lt-ltb _ _ (c .if1 .taken))) (λ c. rw (le-ltb _ _ (c .if1 .left))))

@@ -4,8 +4,9 @@ use borrow.Author.Needs.{needs}
 use Rattle.nes_triangle.proofs.sample.on_step.Statement.{statement}
 use Rattle.nes_triangle.proofs.sample.on_step.Tie as tie
 
-returns : tie.Need-returns
-returns c = is-whole (c .before .before .args .whole) (c .before .before .args .s .step) (c .before .before .pre) (search needs)
-
 pub on-step-spec : {M : Type 1} → statement M
-on-step-spec = tie.close (tie.spec (λ c. search needs) returns)
+on-step-spec =
+    tie.close
+    (tie.spec
+    (λ c. search needs)
+    (λ c. is-whole (c .before .before .args .whole) (c .before .before .args .s .step) (c .before .before .pre) (search needs)))

@@ -4,8 +4,9 @@ use borrow.Author.Needs.{needs}
 use Rattle.string_synth.proofs.sample.in_segment.Statement.{statement}
 use Rattle.string_synth.proofs.sample.in_segment.Tie as tie
 
-returns : tie.Need-returns
-returns c = is-whole (c .before .before .args .whole) (c .before .before .args .s .segment) (c .before .before .pre) (search needs)
-
 pub in-segment-spec : {M : Type 1} → statement M
-in-segment-spec = tie.close (tie.spec (λ c. search needs) returns)
+in-segment-spec =
+    tie.close
+    (tie.spec
+    (λ c. search needs)
+    (λ c. is-whole (c .before .before .args .whole) (c .before .before .args .s .segment) (c .before .before .pre) (search needs)))

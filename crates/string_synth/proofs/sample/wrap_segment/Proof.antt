@@ -4,11 +4,5 @@ use borrow.Author.Needs.{needs}
 use Rattle.string_synth.proofs.sample.wrap_segment.Statement.{statement}
 use Rattle.string_synth.proofs.sample.wrap_segment.Tie as tie
 
-returns : tie.Need-returns
-returns c = rw (eq-eqb _ 8 (c .if1 .taken))
-
-returns-2 : tie.Need-returns-2
-returns-2 c = rw (ne-eqb _ 8 (c .if1 .left))
-
 pub wrap-segment-spec : {M : Type 1} → statement M
-wrap-segment-spec = tie.close (tie.spec (λ c. search needs) returns returns-2)
+wrap-segment-spec = tie.close (tie.spec (λ c. search needs) (λ c. rw (eq-eqb _ 8 (c .if1 .taken))) (λ c. rw (ne-eqb _ 8 (c .if1 .left))))

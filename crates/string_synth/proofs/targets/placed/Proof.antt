@@ -4,11 +4,11 @@ use borrow.Author.Needs.{needs}
 use Rattle.string_synth.proofs.targets.placed.Statement.{statement}
 use Rattle.string_synth.proofs.targets.placed.Tie as tie
 
-returns : tie.Need-returns
-returns c = rw (lt-ltb _ _ (c .if1 .taken))
-
-returns-2 : tie.Need-returns-2
-returns-2 c = rw (le-ltb _ _ (c .before .if1 .left))
-
 pub placed-spec : {M : Type 1} → statement M
-placed-spec = tie.close (tie.spec (λ c. search needs) (λ c. search needs) returns returns-2)
+placed-spec =
+    tie.close
+    (tie.spec
+    (λ c. search needs)
+    (λ c. search needs)
+    (λ c. rw (lt-ltb _ _ (c .if1 .taken)))
+    (λ c. rw (le-ltb _ _ (c .before .if1 .left))))
