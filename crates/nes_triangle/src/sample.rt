@@ -10,6 +10,7 @@ use crate::State;
 use crate::depth::Depth;
 use block::Counts;
 
+// A sample, and what it leaves behind: the state for the next one, and what 01 counts.
 pub struct Sampled {
     pub state: State,
     pub sample: f32,
@@ -31,12 +32,13 @@ pub struct Turn {
     pub wrap: bool,
 }
 
+// How loud the stepped triangle is, and how loud the naive one.
 pub struct Gains {
     pub nes_gain: f32,
     pub tri_gain: f32,
 }
 
-// Whether the whole part is still the state's step.
+// Whether the whole part is still the state's step: line 80. The cast is safe, since a whole part is 131,072 at most.
 fn on_step(s: State, whole: u32) -> bool
     requires { ⌜ whole ≤ 131072 ⌝ }
     ensures { λ r. ⌜ r ≡ isWhole whole (s .step) ⌝ }
@@ -44,12 +46,14 @@ fn on_step(s: State, whole: u32) -> bool
     whole as i32 == s.step
 }
 
+// Line 84, apart from `advance`, which so has no branch.
 fn wrap_phase(phase: f32, wrap: bool) -> f32
     ensures { λ r. ⌜ r ≡ wrapPhase phase wrap ⌝ }
 {
     if wrap { phase - 1.0 } else { phase }
 }
 
+// Line 85. A wrap has come to the number of steps, so that the difference is none below zero.
 fn wrap_step(next_step: u32, num_steps: u32, wrap: bool) -> u32
     requires { ⌜ (wrap ≡ true → «num_steps» ≤ «next_step») ⌝ }
     ensures { λ r. ⌜ r ≡ wrapStep «next_step» «num_steps» wrap ⌝ }
@@ -61,6 +65,8 @@ fn wrap_step(next_step: u32, num_steps: u32, wrap: bool) -> u32
     }
 }
 
+// Lines 55 and 78 to 87. The number of steps is a power of two and so the product exact: there is a wrap exactly where the phase has come to 1.
+// A state's step need not be that of its phase; then it changes though the phase has come to no other.
 fn advance(d: Depth, s: State, frequency: f32) -> Turn
     ensures { λ r. ⌜ r ≡ turnOf d s frequency ⌝ }
 {
@@ -78,7 +84,7 @@ fn advance(d: Depth, s: State, frequency: f32) -> Turn
     }
 }
 
-// From the steps at full resolution to a naive triangle, as the frequency nears one step a sample.
+// Lines 59 to 62: from the steps at full resolution to a naive triangle, from half a step a sample to a whole one.
 fn fade(d: Depth, frequency: f32) -> Gains
     ensures { λ r. ⌜ r ≡ gainsOf d frequency ⌝ }
 {
@@ -90,7 +96,7 @@ fn fade(d: Depth, frequency: f32) -> Gains
     }
 }
 
-// The discontinuity at the top of the naive triangle.
+// The corner at the top of the naive triangle, lines 68 to 74: a change of slope. Where that triangle is silent the discontinuity is 0.
 fn peak(x: Samples, here: bool, phase: f32, frequency: f32, discontinuity: f32) -> Samples
     ensures { λ r. ⌜ r ≡ peakOf here phase frequency discontinuity x ⌝ }
 {
@@ -105,14 +111,14 @@ fn peak(x: Samples, here: bool, phase: f32, frequency: f32, discontinuity: f32) 
     }
 }
 
-// Up in the rising half, down in the falling one.
+// Up in the rising half, down in the falling one: line 89.
 fn direction(next_step: u32, half: u32) -> f32
     ensures { λ r. ⌜ r ≡ directionOf «next_step» half ⌝ }
 {
     if next_step < half { 1.0 } else { -1.0 }
 }
 
-// Which way the new step goes: at depth 1 the other way round, else neither where the triangle turns.
+// Which way the new step goes, lines 89 to 95: with 2 steps the other way round, since step 0 is the low one; else neither where the triangle turns.
 fn step_sign(num_steps: u32, half: u32, next_step: u32) -> f32
     ensures { λ r. ⌜ r ≡ stepSign «num_steps» half «next_step» ⌝ }
 {
@@ -127,7 +133,7 @@ fn step_sign(num_steps: u32, half: u32, next_step: u32) -> f32
     }
 }
 
-// The discontinuity at each step of the NES triangle.
+// The jump at a step of the NES triangle, lines 98 to 105, after the wrap and so with the phase and the step that it left.
 fn edge(x: Samples, t: Turn, num_steps_f: f32, frequency: f32, discontinuity: f32) -> Samples
     ensures { λ r. ⌜ r ≡ edgeOf t «num_steps_f» frequency discontinuity x ⌝ }
 {
@@ -143,7 +149,7 @@ fn edge(x: Samples, t: Turn, num_steps_f: f32, frequency: f32, discontinuity: f3
     }
 }
 
-// The discontinuity at the bottom of the naive triangle.
+// The corner at the bottom of the naive triangle, lines 108 to 114: it turns up again, so that what `peak` takes off is added.
 fn trough(x: Samples, here: bool, phase: f32, frequency: f32, discontinuity: f32) -> Samples
     ensures { λ r. ⌜ r ≡ troughOf here phase frequency discontinuity x ⌝ }
 {
@@ -158,7 +164,7 @@ fn trough(x: Samples, here: bool, phase: f32, frequency: f32, discontinuity: f32
     }
 }
 
-// All discontinuities of a sample.
+// All discontinuities of a sample, in the source's order, since each is rounded into the same two sums. The peak is met before a wrap.
 fn sound(d: Depth, s: State, t: Turn, g: Gains, frequency: f32) -> Samples
     ensures { λ r. ⌜ r ≡ soundOf d s t g frequency ⌝ }
 {
@@ -174,7 +180,7 @@ fn sound(d: Depth, s: State, t: Turn, g: Gains, frequency: f32) -> Samples
     trough(y, t.wrap, t.phase, frequency, corner)
 }
 
-// The stepped triangle.
+// The stepped triangle's height, lines 123 to 127.
 fn nes_level(step: u32, half: u32, top: u32) -> u32
     requires { ⌜ step ≤ top ⌝ }
     ensures { λ r. ⌜ r ≡ nesLevel step half top ⌝ }
@@ -182,7 +188,7 @@ fn nes_level(step: u32, half: u32, top: u32) -> u32
     if step < half { step } else { top - step }
 }
 
-// The naive one.
+// The naive one's, lines 131 to 135.
 fn tri_level(phase: f32) -> f32
     ensures { λ r. ⌜ r ≡ triLevel phase ⌝ }
 {
@@ -193,7 +199,8 @@ fn tri_level(phase: f32) -> f32
     }
 }
 
-// The end of a sample.
+// The end of a sample, lines 119 to 140. `ascending` is cleared at the top and set by a wrap, which comes later and so decides where both happen.
+// 01 counts a change of step as a rise.
 fn finish(d: Depth, s: State, t: Turn, g: Gains, x: Samples, frequency: f32) -> Sampled
     requires { ⌜ (t .«next_step» ≤ d .top) × (t .«next_step» < 65536) ⌝ }
     ensures { λ r. ⌜ r ≡ finished d s t g x frequency ⌝ }
@@ -218,6 +225,7 @@ fn finish(d: Depth, s: State, t: Turn, g: Gains, x: Samples, frequency: f32) -> 
     }
 }
 
+// Lines 54 to 140. The state is in its range, or one wrap might not be enough and `top - step` go below zero.
 pub(crate) fn sample(d: Depth, s: State, frequency: f32) -> Sampled
     requires { ⌜ Ready d s frequency ⌝ }
     ensures { λ r. ⌜ r ≡ sampleOf d s frequency ⌝ }

@@ -26,13 +26,14 @@ pub struct Reached {
     pub rises: u32,
 }
 
+// A sample, and what it leaves behind: the state for the next one, and what 01 counts.
 pub struct Sampled {
     pub state: State,
     pub sample: f32,
     pub counts: Counts,
 }
 
-// Whether the phase is still in the state's segment.
+// Whether the phase is still in the state's segment: line 118. The cast is safe, since a whole part is 131,072 at most.
 fn in_segment(s: State, whole: u32) -> bool
     requires { ⌜ whole ≤ 131072 ⌝ }
     ensures { λ r. ⌜ r ≡ isWhole whole (s .segment) ⌝ }
@@ -40,7 +41,7 @@ fn in_segment(s: State, whole: u32) -> bool
     whole as i32 == s.segment
 }
 
-// A gain taken off, where its saw falls.
+// A gain taken off, where its saw falls: apart from `discontinuity`, which so has no branch.
 fn less_if(falls: bool, discontinuity: f32, gain: f32) -> f32
     ensures { λ r. ⌜ r ≡ lessIf falls discontinuity gain ⌝ }
 {
@@ -51,7 +52,7 @@ fn less_if(falls: bool, discontinuity: f32, gain: f32) -> f32
     }
 }
 
-// How far the saws fall together at the start of a segment.
+// How far the saws fall together at the start of a segment, lines 119 to 131: each saw twice as often as the one before it in the list.
 fn discontinuity(wraps: bool, segment: u32, saws: Saws) -> f32
     ensures { λ r. ⌜ r ≡ discontinuityOf wraps segment saws ⌝ }
 {
@@ -61,19 +62,21 @@ fn discontinuity(wraps: bool, segment: u32, saws: Saws) -> f32
     of_2 - saws.saw_1_gain
 }
 
+// Line 121: a cycle of the 8' saw is eight segments, and a segment one unit of phase.
 fn wrap_phase(phase: f32, wraps: bool) -> f32
     ensures { λ r. ⌜ r ≡ wrappedPhase phase wraps ⌝ }
 {
     if wraps { phase - 8.0 } else { phase }
 }
 
+// Line 122. Where the phase is below 8 and the step 17/32 at most, no whole part passes 8.
 fn wrap_segment(whole: u32) -> u32
     ensures { λ r. ⌜ r ≡ wrappedSegment whole ⌝ }
 {
     if whole == 8 { whole - 8 } else { whole }
 }
 
-// The fall, band-limited.
+// The fall, band-limited: lines 133 to 136. All saws that fall do so at the same moment, and so have one discontinuity.
 fn blep(e: Reached, discontinuity: f32, frequency: f32) -> Reached
     ensures { λ r. ⌜ r ≡ blepOf e discontinuity frequency ⌝ }
 {
@@ -89,6 +92,7 @@ fn blep(e: Reached, discontinuity: f32, frequency: f32) -> Reached
     }
 }
 
+// Line 132: where the gains cancel out there is no fall, and no division by a step.
 fn soften(e: Reached, discontinuity: f32, frequency: f32) -> Reached
     ensures { λ r. ⌜ r ≡ softened e discontinuity frequency ⌝ }
 {
@@ -99,7 +103,7 @@ fn soften(e: Reached, discontinuity: f32, frequency: f32) -> Reached
     }
 }
 
-// Within a segment.
+// Within a segment: this sample starts with what the last one left for it, and the next from 0.
 fn stay(s: State, phase: f32, whole: u32) -> Reached
     ensures { λ r. ⌜ r ≡ stayed s phase whole ⌝ }
 {
@@ -113,7 +117,7 @@ fn stay(s: State, phase: f32, whole: u32) -> Reached
     }
 }
 
-// Into another segment.
+// Into another segment, lines 119 to 138. 01 counts each as a rise, and a wrap as a cycle.
 fn cross(s: State, saws: Saws, phase: f32, whole: u32) -> Reached
     ensures { λ r. ⌜ r ≡ crossed s saws phase whole ⌝ }
 {
@@ -130,6 +134,7 @@ fn cross(s: State, saws: Saws, phase: f32, whole: u32) -> Reached
     soften(e, discontinuity(wraps, segment, saws), saws.frequency)
 }
 
+// Lines 107 to 139. A state's segment need not be that of its phase; then a fall is heard though the phase has come to no other.
 fn reach(s: State, saws: Saws) -> Reached
     ensures { λ r. ⌜ r ≡ reachedOf s saws ⌝ }
 {
@@ -142,7 +147,7 @@ fn reach(s: State, saws: Saws) -> Reached
     }
 }
 
-// What the next sample starts with: the four saws, each about zero.
+// What the next sample starts with, lines 141 to 144: the four saws, each about zero. The products go from the left, as the source's.
 fn next_sample(e: Reached, saws: Saws) -> f32
     ensures { λ r. ⌜ r ≡ nextSample e saws ⌝ }
 {
@@ -152,7 +157,7 @@ fn next_sample(e: Reached, saws: Saws) -> f32
     of_2 + (e.phase - nearest_u32_to_f32(e.segment & 7) - 0.5) * saws.saw_1_gain
 }
 
-// The end of a sample, which is added to what the buffer held.
+// The end of a sample, lines 139 to 150. It is added to what the mix buffer held.
 fn finish(e: Reached, saws: Saws, held: f32) -> Sampled
     requires { ⌜ e .segment ≤ 131072 ⌝ }
     ensures { λ r. ⌜ r ≡ finished e saws held ⌝ }
@@ -178,6 +183,7 @@ fn finish(e: Reached, saws: Saws, held: f32) -> Sampled
     }
 }
 
+// Lines 107 to 150.
 pub(crate) fn sample(s: State, saws: Saws, held: f32) -> Sampled
     ensures { λ r. ⌜ r ≡ sampleOf s saws held ⌝ }
 {

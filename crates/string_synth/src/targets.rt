@@ -11,7 +11,7 @@ pub struct Octave {
     pub shift: usize,
 }
 
-// Halved while it is above 0.5. At a shift of 8 the source gives up, so the loop ends there too: an infinity never comes below.
+// Lines 65 to 69: halved while it is above 0.5. At a shift of 8 the source gives up, so the loop ends there too: an infinity never comes below.
 fn lower(frequency: f32) -> Octave
     ensures { λ r. ⌜ r ≡ lowered frequency ⌝ }
 {
@@ -27,7 +27,7 @@ fn lower(frequency: f32) -> Octave
     }
 }
 
-// The entry at place `i` of the registration, shifted.
+// The entry at place `i` of the registration, shifted: lines 75 to 78. The places that the shift leaves empty are 0.0.
 fn placed(registration: &[f32], shift: usize, i: usize) -> f32
     requires { ⌜ i < length (now registration) ⌝ }
     ensures { λ r. ⌜ r ≡ placedAt (now (registration .entry)) shift i ⌝ }
@@ -39,13 +39,15 @@ fn placed(registration: &[f32], shift: usize, i: usize) -> f32
     }
 }
 
-// The gain of a saw that has a square below it: its own, less that square's, and twice its own square's.
+// The gain of a saw that has a square below it, lines 88 and 93: its own, less that square's, and twice its own square's. A square is twice the saw of
+// its length less the saw an octave above.
 fn gain_between(saw: f32, below: f32, square: f32, gain: f32) -> f32
     ensures { λ r. ⌜ r ≡ gainBetween saw below square gain ⌝ }
 {
     (saw - below + 2.0 * square) * gain
 }
 
+// Lines 60 to 100. A registration of another length is refused before.
 pub(crate) fn targets(frequency: f32, unshifted_registration: &[f32], gain: f32) -> Saws
     requires { ⌜ length (now «unshifted_registration») ≡ 7 ⌝ }
     ensures { λ r. ⌜ r ≡ targetsOf frequency (now («unshifted_registration» .entry)) gain ⌝ }
