@@ -1,5 +1,8 @@
 -- Rounding to binary32 over whole numbers: n / d units become the nearest multiple of 2 ^ k units, a tie the even one, where k is how many digits of the whole part exceed 24.
--- A unit is 2 ^ -149, binary32's smallest value. Nothing here is about floats. Assumes nothing.
+-- A unit is 2 ^ -149, binary32's smallest value. Nothing here is about floats.
+-- The kit proves some of this for any number of digits, but keeps it to itself, so that it stands here again for 24: of `lib.Ieee.Order` size-mono, same-drop (here `same-cut`),
+-- kept-le, all-in-use, kept-ge, fewer, room and grid-mono (`rnd-mono`); of `lib.Ieee.Nearest` Cmp and cmp (`Compared`, `compared`); of `lib.Ieee.Exact` above-zero and
+-- spare (`less`). What the kit has not are the bounds on an error (`closest-err`, `rnd-err`, `rnd-off`) and `rnd-exact` over whole numbers. Assumes nothing.
 use mathlib.Core.Path.{_≡_, sym, ap, _∙_, subst}
 use mathlib.Core.Logic.{inl, inr}
 use Prim.Native.Nat.{ℕ, zero, suc, _+_, _-_, _*_, _/_, _%_, _^_, _≤_, _<_, zero-le, compare, Ordering, Ordering·lt, Ordering·eq, Ordering·gt, compare·zero-suc}
@@ -13,6 +16,7 @@ use lib.Ieee.{size, nearest}
 use lib.Ieee.Digits.{size-lt, size-le, size-reaches, back}
 use lib.Ieee.Fits.{kept-lt, nearest-le}
 use lib.Ieee.Nearest.{closest, closest-mono, nearest-ge, div-mono}
+use lib.Ieee.Order.{drop, kept}
 
 -- a and b differ by at most e
 abbrev pub Within : ℕ → ℕ → ℕ → Type 0
@@ -20,11 +24,11 @@ Within a b e = (a ≤ b + e) × (b ≤ a + e)
 
 -- how many digits of n / d are dropped
 abbrev pub cut : ℕ → ℕ → ℕ
-cut n d = size (n / d) - 24
+cut n d = drop 24 n d
 
--- n / d units, rounded to binary32, in units
+-- n / d units, rounded to binary32, in units: what the kit's `round` gives where it does not overflow
 unfoldable pub rnd : ℕ → ℕ → ℕ
-rnd n d = closest n (d * 2 ^ cut n d) * 2 ^ cut n d
+rnd n d = kept 24 n d * 2 ^ cut n d
 
 -- ---- the nearest whole number is off by a half at most
 -- what `compare` says
