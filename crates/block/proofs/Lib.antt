@@ -1,5 +1,6 @@
 -- The laws of blocks that hold for every oscillator.
 pub mod Plays
+pub mod Turns
 pub mod InsideAt
 pub mod Runs
 pub mod Ways

@@ -1,6 +1,6 @@
 -- A call that is fit: Drift where the walk finds a step outside, else the samples. For any oscillator. Assumes nothing.
 use mathlib.Core.Path.{_≡_, sym, ap, _∙_}
-use mathlib.Core.List.{List}
+use mathlib.Core.List.{List, _++_}
 use Prim.Native.Nat.{ℕ}
 use lib.ListN.{length}
 use lib.Ieee.{Float}
@@ -12,7 +12,8 @@ use Rattle.block.specs.Counting.{noCounts}
 use Rattle.rooms.specs.Steps.{stepsOf, firstOutside}
 use Rattle.block.specs.Play.{Sample, play}
 use Rattle.block.specs.Calls.{refusal, done, driftOr, run}
-use Rattle.block.specs.Fit.{playedOf}
+use Rattle.rooms.proofs.Padding.{unused, used, walk-used}
+use Rattle.block.specs.Fit.{Fit, Playable, playedOf}
 
 module _ {S : Type 0} (make : S → List Float → Float → Sample S) (rooms : List Room) (ps : List ParameterInterpolator) (s : S) (xs : List Float) where
   pub run-drift : (i : ℕ) → firstOutside rooms (stepsOf (length xs) ps) ≡ Outside i → run make rooms ps s xs ≡ refusal 6 i s xs
@@ -30,3 +31,18 @@ module _ {S : Type 0} (make : S → List Float → Float → Sample S) (rooms : 
 
     pub walk-done : found ≡ Nowhere → playedOf make s ps xs ≡ run make rooms ps s xs
     walk-done h = sym (run-done (sym walked ∙ h))
+
+-- as the walk tells it, which takes five places: those without a room of their own change nothing
+module _ (rooms : List Room) (k : ℕ) (ps : List ParameterInterpolator) (xs : List Float) {found : Found} (walked : found ≡ firstOutside (rooms ++ unused k) (stepsOf (length xs) ps)) where
+  here : found ≡ firstOutside rooms (stepsOf (length xs) (used rooms ps))
+  here = walked ∙ walk-used (length xs) rooms k ps
+
+  module _ {S : Type 0} (make : S → List Float → Float → Sample S) (s : S) where
+    pub found-drift : {i : ℕ} → found ≡ Outside i → refusal 6 i s xs ≡ run make rooms (used rooms ps) s xs
+    found-drift {i} h = sym (run-drift make rooms (used rooms ps) s xs i (sym here ∙ h))
+
+    pub found-done : found ≡ Nowhere → playedOf make s (used rooms ps) xs ≡ run make rooms (used rooms ps) s xs
+    found-done h = sym (run-done make rooms (used rooms ps) s xs (sym here ∙ h))
+
+  pub found-playable : {S : Type 0} {s : S} {Ok : S → Type 0} → found ≡ Nowhere → Fit Ok s xs → Playable Ok rooms s (used rooms ps) xs
+  found-playable h f = record { fit = f; inside = sym here ∙ h }

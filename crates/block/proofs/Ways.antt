@@ -2,15 +2,18 @@
 use mathlib.Core.Path.{_≡_, refl, sym, ap, _∙_, subst}
 use mathlib.Core.Bool.{Bool, true, false, true≢false}
 use mathlib.Core.Logic.{_⊎_, ⊎-elim, inl, inr}
-use mathlib.Core.List.{List, [], _∷_}
+use mathlib.Core.List.{List, [], _∷_, _++_}
 use Prim.Native.Nat.{ℕ, _<_}
 use native.Mathlib.Omega.{arith}
 use borrow.Author.Tests.{ne-eqb}
 use lib.Dec.{eqb}
+use lib.ListN.{length}
 use lib.Ieee.{Float}
+use Rattle.parameter_interpolator.specs.declared.ParameterInterpolator.{ParameterInterpolator}
 use Rattle.rooms.specs.declared.Found.{Found}
 use Rattle.rooms.specs.declared.Found.the-variants.{Outside, Nowhere}
 use Rattle.rooms.specs.Steps.{firstOutside}
+use Rattle.rooms.proofs.Padding.{used, used-front}
 use Rattle.block.specs.Calls.{Call, refusal, done, run}
 use Rattle.block.specs.Checks.{Check, checked, InOrder, AllPass, FirstFailing, here, later}
 use Rattle.block.specs.Oscillator.{Oscillator, checksOf, callOf, stepsIn, heardOf, Way, refused, drifted, answered}
@@ -58,6 +61,11 @@ module _ {S A : Type 0} (o : Oscillator S A) (s : S) (a : A) where
   pub runs : AllPass (checksOf o s a) → callOf o s a ≡ run (o .sample a) (o .rooms a) (o .moving s a) s (o .buffer a)
   unfolding callOf
   runs p = passing s (o .buffer a) (run (o .sample a) (o .rooms a) (o .moving s a) s (o .buffer a)) (checksOf o s a) p
+
+  -- what follows once they have passed, where the places that have a room hold its interpolators
+  pub run-from : length (o .moving s a) ≡ length (o .rooms a) → AllPass (checksOf o s a) → {ps : List ParameterInterpolator} (qs : List ParameterInterpolator) {c : Call S} → ps ≡ o .moving s a ++ qs
+      → c ≡ run (o .sample a) (o .rooms a) (used (o .rooms a) ps) s (o .buffer a) → c ≡ callOf o s a
+  run-from l p qs at e = e ∙ rw (at, used-front (o .rooms a) (o .moving s a) qs l) (sym (runs p))
 
   -- where its condition holds, the call goes this way
   pub goes : {c : Call S} → Way o s a c → callOf o s a ≡ c

@@ -1,8 +1,16 @@
 -- Every public function's contract, as the kit reads it, determines its outcome. Assumes nothing.
 use mathlib.Core.Path.{refl}
 use Rattle.floats.proofs.Contracts.{Determines, coincide}
+use Rattle.rooms.proofs.still
+use Rattle.rooms.proofs.advance
 use Rattle.rooms.proofs.in_room
 use Rattle.rooms.proofs.first_outside
+
+pub still-tight : Determines still.ended still.Reads.Learnt
+still-tight κs a r q v w h k = (coincide h k, refl)
+
+pub advance-tight : Determines advance.ended advance.Reads.Learnt
+advance-tight κs a r q v w h k = (coincide h k, refl)
 
 pub in-room-tight : Determines in_room.ended in_room.Reads.Learnt
 in-room-tight κs a r q v w h k = (coincide h k, refl)

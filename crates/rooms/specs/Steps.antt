@@ -3,12 +3,17 @@ use mathlib.Core.Bool.{Bool, true, _&&_, cond}
 use mathlib.Core.List.{List, [], _∷_}
 use Prim.Native.Nat.{ℕ, zero, suc}
 use lib.Ieee.{Float}
+use Rattle.floats.specs.F32.{zero32}
 use Rattle.parameter_interpolator.specs.declared.ParameterInterpolator.{ParameterInterpolator}
 use Rattle.parameter_interpolator.specs.Interpolator.{nextInterpolator}
 use Rattle.rooms.specs.declared.Room.{Room}
 use Rattle.rooms.specs.declared.Found.{Found}
 use Rattle.rooms.specs.declared.Found.the-variants.{Outside, Nowhere}
 use Rattle.rooms.specs.Rooms.{inRoom}
+
+-- a place that is not used stands still, at 0
+abbrev pub stillOne : ParameterInterpolator
+stillOne = record { value = zero32; increment = zero32 }
 
 -- each interpolator one step on
 unfoldable pub moved : List ParameterInterpolator → List ParameterInterpolator

@@ -1,8 +1,31 @@
-// The rooms of 01 by kind of parameter, and the walk that looks for the first step outside its room.
+// The five places of interpolators, the rooms of 01 by kind of parameter, and the walk that looks for the first step outside its room.
 ghost use mathlib.Core.Path.{_≡_};
 ghost use Rattle.rooms.specs.Rooms.{inRoom};
-ghost use Rattle.rooms.specs.Steps.{stepsOf, firstOutside};
+ghost use Rattle.rooms.specs.Steps.{stillOne, moved, stepsOf, firstOutside};
 use parameter_interpolator::ParameterInterpolator;
+
+// An interpolator for a place that an oscillator does not use.
+pub fn still() -> ParameterInterpolator
+    ensures { λ r. ⌜ r ≡ stillOne ⌝ }
+{
+    ParameterInterpolator {
+        value: 0.0,
+        increment: 0.0,
+    }
+}
+
+// One sample on.
+pub fn advance(p: [ParameterInterpolator; 5]) -> [ParameterInterpolator; 5]
+    ensures { λ r. ⌜ r ≡ moved p ⌝ }
+{
+    [
+        p[0].next(),
+        p[1].next(),
+        p[2].next(),
+        p[3].next(),
+        p[4].next(),
+    ]
+}
 
 // What a parameter's steps are kept within. An unused one has no steps to test.
 pub enum Room {

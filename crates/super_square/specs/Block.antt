@@ -1,6 +1,7 @@
 -- The super square as an oscillator of `block`: super_square_oscillator.rs, lines 38 to 132, with 01's checks before it. Assumes nothing.
 use mathlib.Core.Bool.{Bool, cond}
 use mathlib.Core.List.{List, [], _∷_}
+use Prim.Native.Nat.{ℕ}
 use lib.ListN.{length}
 use lib.Ieee.{Float, lt}
 use Rattle.floats.specs.F32.{_⊕_, _⊖_, _⊗_, f32, half32, one32, sixteen32}
@@ -45,10 +46,10 @@ factorOf shape =
     (one32 ⊕ sixteen32 ⊗ (shape ⊖ half32) ⊗ (shape ⊖ half32))
 
 -- lines 39 to 56: the master's frequency moves to the parameter, the slave's to its product with the factor, each clipped at 0.25
-abbrev pub interpolators : State → Arguments → List ParameterInterpolator
-interpolators s a =
-    newInterpolator (s .«master_frequency») (clipped (a .frequency)) (length (a .buffer))
-    ∷ newInterpolator (s .«slave_frequency») (clipped (a .frequency ⊗ factorOf (a .shape))) (length (a .buffer))
+abbrev pub interpolators : State → Float → Float → ℕ → List ParameterInterpolator
+interpolators s frequency shape n =
+    newInterpolator (s .«master_frequency») (clipped frequency) n
+    ∷ newInterpolator (s .«slave_frequency») (clipped (frequency ⊗ factorOf shape)) n
     ∷ []
 
 -- 01, "Rooms": each frequency above 0 and at most 17/64
@@ -60,7 +61,7 @@ abbrev pub superSquare : Oscillator State Arguments
 superSquare = record {
   buffer = λ a. a .buffer;
   checks = λ s a. 3 unless stateIn s ∷ 4 unless parametersIn (a .frequency) (a .shape) ∷ [];
-  moving = interpolators;
+  moving = λ s a. interpolators s (a .frequency) (a .shape) (length (a .buffer));
   rooms = λ a. rooms;
   sample = λ a. sampleAt;
   phases = λ s. s .«master_phase» ∷ s .«slave_phase» ∷ [];

@@ -1,12 +1,13 @@
 // Two hard-synced square waves with one shape parameter: the source's oscillator/super_square_oscillator.rs.
 ghost use mathlib.Core.Path.{_≡_};
-ghost use mathlib.Core.List.{[], _∷_};
-ghost use Rattle.rooms.specs.Steps.{stepsOf, firstOutside};
+ghost use mathlib.Core.List.{[], _∷_, _++_};
+ghost use Rattle.rooms.specs.Steps.{stillOne};
+ghost use Rattle.rooms.proofs.Padding.{used};
 ghost use Rattle.block.specs.Calls.{run};
 ghost use Rattle.block.specs.Fit.{Fit, Playable, playedOf};
 ghost use Rattle.super_square.specs.State.{newState, initState};
 ghost use Rattle.super_square.specs.Sample.{sampleAt};
-ghost use Rattle.super_square.specs.Block.{stateIn, parametersIn, factorOf, rooms, renderOf, left};
+ghost use Rattle.super_square.specs.Block.{stateIn, parametersIn, factorOf, interpolators as interpolatorsTo, rooms, renderOf, left};
 ghost use Rattle.super_square.specs.Private.{Valid, refused};
 use block::Answer;
 use block::Counts;
@@ -75,11 +76,7 @@ pub fn render(state: State, frequency: f32, shape: f32, out: &mut [f32]) -> Rend
         return refuse(Answer::BadParam, state);
     }
     let n = out.len() as u32;
-    let master_target = ranges::targets::clip(frequency);
-    let slave_target = ranges::targets::clip(frequency * factor(shape));
-    let master_fm = ParameterInterpolator::new(state.master_frequency, master_target, n);
-    let fm = ParameterInterpolator::new(state.slave_frequency, slave_target, n);
-    drift_or_play(state, master_fm, fm, out)
+    drift_or_play(state, interpolators(state, frequency, shape, n), out)
 }
 
 fn state_in(s: State) -> bool
@@ -118,15 +115,26 @@ fn factor(shape: f32) -> f32
     }
 }
 
-// The first sample with a step outside its room.
-fn walk(master_fm: ParameterInterpolator, fm: ParameterInterpolator, n: u32) -> Found
-    ensures { λ r. ⌜ r ≡ firstOutside rooms (stepsOf n («master_fm» ∷ fm ∷ [])) ⌝ }
+// The master's and the slave's frequency on their way to the targets, over n samples; the other places are not used.
+fn interpolators(s: State, frequency: f32, shape: f32, n: u32) -> [ParameterInterpolator; 5]
+    ensures { λ r. ⌜ r ≡ interpolatorsTo s frequency shape n ++ stillOne ∷ stillOne ∷ stillOne ∷ [] ⌝ }
 {
-    let still = ParameterInterpolator {
-        value: 0.0,
-        increment: 0.0,
-    };
-    let moving = [master_fm, fm, still, still, still];
+    let master_target = ranges::targets::clip(frequency);
+    let slave_target = ranges::targets::clip(frequency * factor(shape));
+    [
+        ParameterInterpolator::new(s.master_frequency, master_target, n),
+        ParameterInterpolator::new(s.slave_frequency, slave_target, n),
+        rooms::still(),
+        rooms::still(),
+        rooms::still(),
+    ]
+}
+
+// Drift where a step leaves its room, else the samples.
+fn drift_or_play(state: State, p: [ParameterInterpolator; 5], out: &mut [f32]) -> Rendered
+    requires { ⌜ Fit Valid state (now out) ⌝ }
+    ensures { λ r. ⌜ left r (now (out .exit)) ≡ run sampleAt rooms (used rooms p) state (now (out .entry)) ⌝ }
+{
     let kept = [
         Room::Frequency,
         Room::Frequency,
@@ -134,44 +142,24 @@ fn walk(master_fm: ParameterInterpolator, fm: ParameterInterpolator, n: u32) -> 
         Room::Unused,
         Room::Unused,
     ];
-    rooms::first_outside(moving, kept, n)
-}
-
-// Drift where a step leaves its room, else the samples.
-fn drift_or_play(
-    state: State,
-    master_fm: ParameterInterpolator,
-    fm: ParameterInterpolator,
-    out: &mut [f32],
-) -> Rendered
-    requires { ⌜ Fit Valid state (now out) ⌝ }
-    ensures { λ r. ⌜ left r (now (out .exit)) ≡ run sampleAt rooms («master_fm» ∷ fm ∷ []) state (now (out .entry)) ⌝ }
-{
-    match walk(master_fm, fm, out.len() as u32) {
+    match rooms::first_outside(p, kept, out.len() as u32) {
         Found::Outside(i) => refuse(Answer::Drift(i), state),
-        Found::Nowhere => play(state, master_fm, fm, out),
+        Found::Nowhere => play(state, p, out),
     }
 }
 
 // Every sample of the buffer.
-fn play(
-    state: State,
-    master_fm: ParameterInterpolator,
-    fm: ParameterInterpolator,
-    out: &mut [f32],
-) -> Rendered
-    requires { ⌜ Playable Valid rooms state («master_fm» ∷ fm ∷ []) (now out) ⌝ }
-    ensures { λ r. ⌜ left r (now (out .exit)) ≡ playedOf sampleAt state («master_fm» ∷ fm ∷ []) (now (out .entry)) ⌝ }
+fn play(state: State, p: [ParameterInterpolator; 5], out: &mut [f32]) -> Rendered
+    requires { ⌜ Playable Valid rooms state (used rooms p) (now out) ⌝ }
+    ensures { λ r. ⌜ left r (now (out .exit)) ≡ playedOf sampleAt state (used rooms p) (now (out .entry)) ⌝ }
 {
     let mut s = state;
-    let mut master = master_fm;
-    let mut slave = fm;
+    let mut moving = p;
     let mut counts = block::none();
     let mut i = 0;
     while i < out.len() {
-        master = master.next();
-        slave = slave.next();
-        let t = sample::sample(s, master.value, slave.value);
+        moving = rooms::advance(moving);
+        let t = sample::sample(s, moving[0].value, moving[1].value);
         out[i] = t.sample;
         s = t.state;
         counts = block::sum(counts, t.counts);
