@@ -39,7 +39,7 @@ drift-parameters = refl
 pub drift : (s : State) (xs : List Float) → Drifting s → stateIn s ≡ true → length xs ≡ 4096 → renderOf s minFrequency half32 zero32 xs ≡ refusal 6 4095 s xs
 drift s xs d a l =
     let call : Arguments = record { frequency = minFrequency; pw = half32; waveshape = zero32; buffer = xs } in
-    let found : firstOutside rooms (stepsOf (length xs) (interpolators s call)) ≡ Outside 4095 = rw (l, d .frequency, d .pw, d .waveshape) drift-found in
+    let found : firstOutside rooms (stepsOf (length xs) (interpolators s minFrequency half32 zero32 (length xs))) ≡ Outside 4095 = rw (l, d .frequency, d .pw, d .waveshape) drift-found in
     goes variableSaw s call (drifted (le-leb (length xs) 4096 (omega arith), (a, (drift-parameters, tt))) found)
 
 -- there is such a state: `init`'s, but for its frequency

@@ -1,27 +1,17 @@
--- What a call of the variable saw makes sure of, and what `render` leaves once its checks have passed. Assumes nothing.
-use mathlib.Core.Path.{_≡_, sym, _∙_}
+-- What a call of the variable saw makes sure of: its state is valid. Assumes nothing.
+use mathlib.Core.Path.{_≡_}
 use mathlib.Core.Bool.{Bool, true, false}
-use mathlib.Core.List.{[], _∷_}
 use native.Mathlib.Omega.{arith}
 use lib.Dec.{T}
-use lib.ListN.{length}
 use lib.Ieee.{Float, binary32, fits}
 use Rattle.floats.proofs.Ticks.{topSum-at}
 use Rattle.floats.proofs.Ranges.{Under, at-least-0, passes-le, upto-of}
-use Rattle.parameter_interpolator.specs.declared.ParameterInterpolator.{ParameterInterpolator}
-use Rattle.parameter_interpolator.specs.Interpolator.{newInterpolator}
-use Rattle.ranges.specs.Targets.{clipped, clampedWidth}
-use Rattle.block.specs.Calls.{Call, run}
-use Rattle.block.specs.Checks.{AllPass}
-use Rattle.block.specs.Oscillator.{checksOf}
 use Rattle.block.specs.Account.{Phases32}
 use Rattle.floats.proofs.Bools.{and-both}
 use Rattle.ranges.proofs.AllOf.{each-of, of-each}
 use Rattle.rooms.proofs.RangeLaws.{phase-under, under-phase}
-use Rattle.block.proofs.Ways.{runs}
 use Rattle.variable_saw.specs.declared.State.{State}
-use Rattle.variable_saw.specs.Sample.{sampleAt}
-use Rattle.variable_saw.specs.Block.{sawPhaseIn, stateIn, Arguments, rooms, variableSaw, renderOf}
+use Rattle.variable_saw.specs.Block.{sawPhaseIn, stateIn, variableSaw}
 use Rattle.variable_saw.specs.Private.{reach, Valid}
 
 -- a phase that passed its test lies within its reach, and the other way round
@@ -43,10 +33,3 @@ valid-of s f h =
 pub of-valid : (s : State) → Valid s → stateIn s ≡ true
 unfolding stateIn
 of-valid s v = of-each _ (of-phase (s .high) (v .phase), (v .previous-pw, (v .frequency, (v .pw, (v .waveshape, tt)))))
-
--- the interpolators that `render` makes are the definition's
-pub rendered : (s : State) (a : Arguments) (c : Call State) → AllPass (checksOf variableSaw s a) → (target width : Float) (f p w : ParameterInterpolator)
-    → target ≡ clipped (a .frequency) → width ≡ clampedWidth target (a .pw) → f ≡ newInterpolator (s .frequency) target (length (a .buffer))
-    → p ≡ newInterpolator (s .pw) width (length (a .buffer)) → w ≡ newInterpolator (s .waveshape) (a .waveshape) (length (a .buffer))
-    → c ≡ run sampleAt rooms (f ∷ p ∷ w ∷ []) s (a .buffer) → c ≡ renderOf s (a .frequency) (a .pw) (a .waveshape) (a .buffer)
-rendered s a c q target width f p w at-target at-width at-f at-p at-w e = e ∙ rw (at-f, at-p, at-w, at-width, at-target) (sym (runs variableSaw s a q))

@@ -1,6 +1,7 @@
 -- The variable saw as an oscillator of `block`: variable_saw_oscillator.rs, lines 44 to 111, with 01's checks before it. Assumes nothing.
 use mathlib.Core.Bool.{Bool, cond}
 use mathlib.Core.List.{List, [], _∷_}
+use Prim.Native.Nat.{ℕ}
 use lib.ListN.{length}
 use lib.Ieee.{Float}
 use Rattle.floats.specs.F32.{zero32, topSum}
@@ -44,11 +45,11 @@ pub record Arguments : Type 0 where
   pub buffer : List Float
 
 -- lines 45 to 58: the width's target is what the clipped frequency allows
-abbrev pub interpolators : State → Arguments → List ParameterInterpolator
-interpolators s a =
-    newInterpolator (s .frequency) (clipped (a .frequency)) (length (a .buffer))
-    ∷ newInterpolator (s .pw) (clampedWidth (clipped (a .frequency)) (a .pw)) (length (a .buffer))
-    ∷ newInterpolator (s .waveshape) (a .waveshape) (length (a .buffer))
+abbrev pub interpolators : State → Float → Float → Float → ℕ → List ParameterInterpolator
+interpolators s frequency pw waveshape n =
+    newInterpolator (s .frequency) (clipped frequency) n
+    ∷ newInterpolator (s .pw) (clampedWidth (clipped frequency) pw) n
+    ∷ newInterpolator (s .waveshape) waveshape n
     ∷ []
 
 -- 01, "Rooms": the frequency above 0 and at most 17/64, the width strictly between 0 and 1, the waveshape -1 to 2
@@ -60,7 +61,7 @@ abbrev pub variableSaw : Oscillator State Arguments
 variableSaw = record {
   buffer = λ a. a .buffer;
   checks = λ s a. 3 unless stateIn s ∷ 4 unless parametersIn (a .frequency) (a .pw) (a .waveshape) ∷ [];
-  moving = interpolators;
+  moving = λ s a. interpolators s (a .frequency) (a .pw) (a .waveshape) (length (a .buffer));
   rooms = λ a. rooms;
   sample = λ a. sampleAt;
   phases = λ s. s .phase ∷ [];

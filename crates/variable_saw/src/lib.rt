@@ -1,12 +1,13 @@
 // A saw with variable slope or notch: the source's oscillator/variable_saw_oscillator.rs.
 ghost use mathlib.Core.Path.{_≡_};
-ghost use mathlib.Core.List.{[], _∷_};
-ghost use Rattle.rooms.specs.Steps.{stepsOf, firstOutside};
+ghost use mathlib.Core.List.{[], _∷_, _++_};
+ghost use Rattle.rooms.specs.Steps.{stillOne};
+ghost use Rattle.rooms.proofs.Padding.{used};
 ghost use Rattle.block.specs.Calls.{run};
 ghost use Rattle.block.specs.Fit.{Fit, Playable, playedOf};
 ghost use Rattle.variable_saw.specs.State.{newState, initState};
 ghost use Rattle.variable_saw.specs.Sample.{sampleAt};
-ghost use Rattle.variable_saw.specs.Block.{sawPhaseIn, stateIn, parametersIn, rooms, renderOf, left};
+ghost use Rattle.variable_saw.specs.Block.{sawPhaseIn, stateIn, parametersIn, interpolators as interpolatorsTo, rooms, renderOf, left};
 ghost use Rattle.variable_saw.specs.Private.{Valid, refused};
 use block::Answer;
 use block::Counts;
@@ -78,12 +79,11 @@ pub fn render(state: State, frequency: f32, pw: f32, waveshape: f32, out: &mut [
         return refuse(Answer::BadParam, state);
     }
     let n = out.len() as u32;
-    let target = ranges::targets::clip(frequency);
-    let width = ranges::targets::clamp_width(target, pw);
-    let fm = ParameterInterpolator::new(state.frequency, target, n);
-    let pwm = ParameterInterpolator::new(state.pw, width, n);
-    let waveshape_modulation = ParameterInterpolator::new(state.waveshape, waveshape, n);
-    drift_or_play(state, fm, pwm, waveshape_modulation, out)
+    drift_or_play(
+        state,
+        interpolators(state, frequency, pw, waveshape, n),
+        out,
+    )
 }
 
 // A phase is below 1, but while `high` it may be up to 81/64: a rise and a wrap exclude each other in one sample.
@@ -123,20 +123,32 @@ fn refuse(answer: Answer, state: State) -> Rendered
     }
 }
 
-// The first sample with a step outside its room.
-fn walk(
-    fm: ParameterInterpolator,
-    pwm: ParameterInterpolator,
-    waveshape_modulation: ParameterInterpolator,
+// The frequency, the width and the waveshape on their way to the targets, over n samples; the other places are not used.
+fn interpolators(
+    s: State,
+    frequency: f32,
+    pw: f32,
+    waveshape: f32,
     n: u32,
-) -> Found
-    ensures { λ r. ⌜ r ≡ firstOutside rooms (stepsOf n (fm ∷ pwm ∷ «waveshape_modulation» ∷ [])) ⌝ }
+) -> [ParameterInterpolator; 5]
+    ensures { λ r. ⌜ r ≡ interpolatorsTo s frequency pw waveshape n ++ stillOne ∷ stillOne ∷ [] ⌝ }
 {
-    let still = ParameterInterpolator {
-        value: 0.0,
-        increment: 0.0,
-    };
-    let moving = [fm, pwm, waveshape_modulation, still, still];
+    let target = ranges::targets::clip(frequency);
+    let width = ranges::targets::clamp_width(target, pw);
+    [
+        ParameterInterpolator::new(s.frequency, target, n),
+        ParameterInterpolator::new(s.pw, width, n),
+        ParameterInterpolator::new(s.waveshape, waveshape, n),
+        rooms::still(),
+        rooms::still(),
+    ]
+}
+
+// Drift where a step leaves its room, else the samples.
+fn drift_or_play(state: State, p: [ParameterInterpolator; 5], out: &mut [f32]) -> Rendered
+    requires { ⌜ Fit Valid state (now out) ⌝ }
+    ensures { λ r. ⌜ left r (now (out .exit)) ≡ run sampleAt rooms (used rooms p) state (now (out .entry)) ⌝ }
+{
     let kept = [
         Room::Frequency,
         Room::PulseWidth,
@@ -144,48 +156,24 @@ fn walk(
         Room::Unused,
         Room::Unused,
     ];
-    rooms::first_outside(moving, kept, n)
-}
-
-// Drift where a step leaves its room, else the samples.
-fn drift_or_play(
-    state: State,
-    fm: ParameterInterpolator,
-    pwm: ParameterInterpolator,
-    waveshape_modulation: ParameterInterpolator,
-    out: &mut [f32],
-) -> Rendered
-    requires { ⌜ Fit Valid state (now out) ⌝ }
-    ensures { λ r. ⌜ left r (now (out .exit)) ≡ run sampleAt rooms (fm ∷ pwm ∷ «waveshape_modulation» ∷ []) state (now (out .entry)) ⌝ }
-{
-    match walk(fm, pwm, waveshape_modulation, out.len() as u32) {
+    match rooms::first_outside(p, kept, out.len() as u32) {
         Found::Outside(i) => refuse(Answer::Drift(i), state),
-        Found::Nowhere => play(state, fm, pwm, waveshape_modulation, out),
+        Found::Nowhere => play(state, p, out),
     }
 }
 
 // Every sample of the buffer.
-fn play(
-    state: State,
-    fm: ParameterInterpolator,
-    pwm: ParameterInterpolator,
-    waveshape_modulation: ParameterInterpolator,
-    out: &mut [f32],
-) -> Rendered
-    requires { ⌜ Playable Valid rooms state (fm ∷ pwm ∷ «waveshape_modulation» ∷ []) (now out) ⌝ }
-    ensures { λ r. ⌜ left r (now (out .exit)) ≡ playedOf sampleAt state (fm ∷ pwm ∷ «waveshape_modulation» ∷ []) (now (out .entry)) ⌝ }
+fn play(state: State, p: [ParameterInterpolator; 5], out: &mut [f32]) -> Rendered
+    requires { ⌜ Playable Valid rooms state (used rooms p) (now out) ⌝ }
+    ensures { λ r. ⌜ left r (now (out .exit)) ≡ playedOf sampleAt state (used rooms p) (now (out .entry)) ⌝ }
 {
     let mut s = state;
-    let mut frequency = fm;
-    let mut pw = pwm;
-    let mut waveshape = waveshape_modulation;
+    let mut moving = p;
     let mut counts = block::none();
     let mut i = 0;
     while i < out.len() {
-        frequency = frequency.next();
-        pw = pw.next();
-        waveshape = waveshape.next();
-        let t = sample::sample(s, frequency.value, pw.value, waveshape.value);
+        moving = rooms::advance(moving);
+        let t = sample::sample(s, moving[0].value, moving[1].value, moving[2].value);
         out[i] = t.sample;
         s = t.state;
         counts = block::sum(counts, t.counts);

@@ -1,11 +1,11 @@
 -- `variable_saw::render` meets its contract: each way out is the definition's. Assumes nothing.
-use mathlib.Core.Path.{_∙_, sym, subst}
+use mathlib.Core.Path.{refl, _∙_, sym, subst}
 use lib.Dec.{T}
 use borrow.Author.Tests.{not-true, not-false, le-leb, lt-leb}
 use Rattle.block.specs.Checks.{here, later}
-use Rattle.block.proofs.Ways.{refused-by}
+use Rattle.block.proofs.Ways.{refused-by, run-from}
 use Rattle.variable_saw.specs.Block.{variableSaw}
-use Rattle.variable_saw.proofs.Calls.{valid-of, rendered}
+use Rattle.variable_saw.proofs.Calls.{valid-of}
 use borrow.Author.Needs.{needs}
 use Rattle.variable_saw.proofs.render.Statement.{statement}
 use Rattle.variable_saw.proofs.render.Tie as tie
@@ -27,7 +27,7 @@ returns-3 c =
 
 drift-or-play-requires : tie.Need-drift-or-play-requires
 drift-or-play-requires c κs =
-    let e = c .before .before .before .before .before .before in
+    let e = c .before .before in
     let t = e .before .before .before in
     let g = t .before .before .before .good .0 in
     record { short = t .before .if1 .left; valid = valid-of _ (subst T (sym (g .1 .1 .0 .1)) tt, tt) (sym (t .state-in .ensures) ∙ not-false _ (e .before .before .if2 .left)) }
@@ -35,16 +35,12 @@ drift-or-play-requires c κs =
 returns-4 : tie.Need-returns-4
 returns-4 c =
     let d = c .before .before in
-    let n3 = d .before .before in
-    let n2 = n3 .before in
-    let n1 = n2 .before in
-    let w = n1 .before in
-    let k = w .before in
-    let e = k .before in
+    let n = d .before .before in
+    let e = n .before in
     let p = e .before in
     let t = p .before .before in
-    rendered _ _ _ (le-leb _ _ (t .before .if1 .left), (sym (t .state-in .ensures) ∙ not-false _ (p .before .if2 .left), (sym (p .parameters-in .ensures) ∙ not-false _ (e .if3 .left), tt)))
-    _ _ _ _ _ (k .clip .ensures) (w .clamp-width .ensures) (n1 .new .ensures) (n2 .new2 .ensures) (n3 .new3 .ensures) (d .drift-or-play .ensures)
+    run-from variableSaw _ _ refl (le-leb _ _ (t .before .if1 .left), (sym (t .state-in .ensures) ∙ not-false _ (p .before .if2 .left), (sym (p .parameters-in .ensures) ∙ not-false _ (e .if3 .left), tt)))
+    _ (n .interpolators .ensures) (d .drift-or-play .ensures)
 
 pub render-spec : {M : Type 1} → statement M
 render-spec =
@@ -59,10 +55,6 @@ render-spec =
     (λ c κs. search needs)
     returns-3
     (λ c. search needs)
-    (λ c κs. search needs)
-    (λ c κs. search needs)
-    (λ c κs. search needs)
-    (λ c κs. search needs)
     (λ c κs. search needs)
     drift-or-play-requires
     (λ c. search needs)
