@@ -20,7 +20,7 @@ use Rattle.nes_triangle.specs.declared.sample.Sampled.{Sampled}
 use Rattle.nes_triangle.specs.Depth.{depthOf}
 use Rattle.nes_triangle.specs.Sample.{turnOf, finish, sampleOf, sampleAt}
 use Rattle.nes_triangle.specs.Block.{rooms}
-use Rattle.nes_triangle.specs.Private.{Below, Valid, BitsIn, Ready}
+use Rattle.nes_triangle.specs.Private.{Below, Ready, Passed}
 use Rattle.nes_triangle.proofs.Turns.{turned}
 
 -- what one sample does to a phase of a units with a step of b, and to all else
@@ -50,26 +50,28 @@ pub stepped : (frequency : Float) → Inside rooms (frequency ∷ []) → Positi
 unfolding allIn
 stepped f i = frequency-step (i .fit .0) (and-both _ _ (i .rooms) .0)
 
-module _ (bits : ℕ) (b : BitsIn bits) where
-  abbrev pub ready-of : (s : State) (frequency : Float) → Valid bits s → Inside rooms (frequency ∷ []) → Ready (depthOf bits) s frequency
-  ready-of s f v i = record { bits = bits; depth = refl; bits-in = b; valid = v; some = stepped f i }
+abbrev ready-of : (bits : ℕ) (s : State) (frequency : Float) → Passed bits s → Inside rooms (frequency ∷ []) → Ready (depthOf bits) s frequency
+ready-of bits s f v i = record { bits = bits; depth = refl; bits-in = v .bits-in; valid = v .valid; some = stepped f i }
 
-  -- a sample's law, for the steps as a list
-  pub law-of : (s : State) (steps : List Float) → Valid bits s → Inside rooms steps
-      → (h : Ready (depthOf bits) s (getD steps 0 zero32)) × Law bits (getD steps 0 zero32) (h .valid .phase .n) (h .some .n) (sampleOf (depthOf bits) s (getD steps 0 zero32))
-  law-of s [] v i = absurd (omega (arith, i .long))
-  law-of s (f ∷ []) v i = (ready-of s f v i, sample-law (depthOf bits) s f (ready-of s f v i))
-  law-of s (f ∷ g ∷ rest) v i = absurd (omega (arith, i .long))
+-- a sample's law, for the steps as a list
+pub law-of : (bits : ℕ) (s : State) (steps : List Float) → Passed bits s → Inside rooms steps
+    → (h : Ready (depthOf bits) s (getD steps 0 zero32)) × Law bits (getD steps 0 zero32) (h .valid .phase .n) (h .some .n) (sampleOf (depthOf bits) s (getD steps 0 zero32))
+law-of bits s [] v i = absurd (omega (arith, i .long))
+law-of bits s (f ∷ []) v i = (ready-of bits s f v i, sample-law (depthOf bits) s f (ready-of bits s f v i))
+law-of bits s (f ∷ g ∷ rest) v i = absurd (omega (arith, i .long))
 
-  pub keeps : Keeps (sampleAt bits) rooms (Valid bits)
-  keeps s steps x v i =
-      let r = law-of s steps v i in
-      let l = r .1 in
-      record {
-        ok = record {
+pub keeps : (bits : ℕ) → Keeps (sampleAt bits) rooms (Passed bits)
+keeps bits s steps x v i =
+    let r = law-of bits s steps v i in
+    let l = r .1 in
+    record {
+      ok = record {
+        bits-in = v .bits-in;
+        valid = record {
           phase = record { n = l .phase .n; at = l .phase .at; under = l .phase .stays };
           step = l .step;
           frequency = rw (l .stored) (step-frequency (r .0 .some));
         };
-        few = record { cycles = l .phase .once; rises = omega (arith, l .rises); falls = omega (arith, l .falls); cuts = omega (arith, l .cuts) };
-      }
+      };
+      few = record { cycles = l .phase .once; rises = omega (arith, l .rises); falls = omega (arith, l .falls); cuts = omega (arith, l .cuts) };
+    }

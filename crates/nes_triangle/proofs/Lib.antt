@@ -2,7 +2,6 @@
 pub mod Depths
 pub mod Turns
 pub mod Keeping
-pub mod Loop
 pub mod Calls
 pub mod Phase
 pub mod Tight

@@ -15,7 +15,6 @@ use Rattle.block.specs.Oscillator.{callOf}
 use Rattle.block.specs.Limits.{NeitherFallsNorCuts}
 use Rattle.block.specs.Account.{Phases32}
 use Rattle.block.specs.Fit.{Inside}
-use Rattle.block.proofs.Plays.{Keeps}
 use Rattle.block.proofs.Accounts.{OneSample}
 use Rattle.block.proofs.Blocks.{Laws}
 use Rattle.block.proofs.Oscillators.{answered-valid}
@@ -31,16 +30,13 @@ use Rattle.nes_triangle.proofs.Calls.{passed-of, of-passed}
 module _ (bits : ℕ) (s : State) (steps : List Float) (x : Float) (v : Passed bits s) (i : Inside rooms steps) where
   one-sample : OneSample cycle tick (s .phase) (getD steps 0 zero32) (sampleAt bits s steps x .counts .cycles) (sampleAt bits s steps x .state .phase)
   one-sample =
-      let r = law-of bits (v .bits-in) s steps (v .valid) i in
+      let r = law-of bits s steps v i in
       let p = r .1 .phase in
       record { a = r .0 .valid .phase .n; b = r .0 .some .n; n = p .n; first-at = r .0 .valid .phase .at; step-at = r .0 .some .at; last-at = p .at; account = p .account }
 
   -- a sample counts at most one cycle and one rise, and no fall and no cut
   pub sample-limits : (let c = sampleAt bits s steps x .counts in (c .cycles ≤ 1) × (c .rises ≤ 1) × (c .falls ≡ 0) × (c .cuts ≡ 0))
-  sample-limits = let l = law-of bits (v .bits-in) s steps (v .valid) i .1 in (l .phase .once, l .rises, l .falls, l .cuts)
-
-passed-keeps : (bits : ℕ) → Keeps (sampleAt bits) rooms (Passed bits)
-passed-keeps bits s steps x v i = let k = keeps bits (v .bits-in) s steps x (v .valid) i in record { ok = record { bits-in = v .bits-in; valid = k .ok }; few = k .few }
+  sample-limits = let l = law-of bits s steps v i .1 in (l .phase .once, l .rises, l .falls, l .cuts)
 
 -- a state that one call's bits accept may be refused by another's: what is valid goes by the arguments
 pub laws : Laws nesTriangle (λ a. Passed (a .bits)) cycle tick
@@ -49,7 +45,7 @@ laws = record {
   paired = λ s a. refl;
   passed = λ s a f p. passed-of s (a .frequency) (a .bits) f (p .0) (p .1 .0);
   fits = λ s a v. (v .valid .phase .at .fit, tt);
-  keeps = λ a. passed-keeps (a .bits);
+  keeps = λ a. keeps (a .bits);
   one = λ a. one-sample (a .bits);
 }
 

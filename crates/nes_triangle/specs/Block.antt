@@ -46,8 +46,8 @@ pub record Arguments : Type 0 where
   pub buffer : List Float
 
 -- lines 47 to 49: the frequency moves to the parameter, or to 0.25 where that is less
-abbrev pub interpolators : State → Arguments → List ParameterInterpolator
-interpolators s a = newInterpolator (s .frequency) (minOf (a .frequency) maxFrequency) (length (a .buffer)) ∷ []
+abbrev pub interpolators : State → Float → ℕ → List ParameterInterpolator
+interpolators s frequency n = newInterpolator (s .frequency) (minOf frequency maxFrequency) n ∷ []
 
 -- 01, "Rooms for each interpolated step": the frequency above 0 and at most 17/64
 abbrev pub rooms : List Room
@@ -58,7 +58,7 @@ abbrev pub nesTriangle : Oscillator State Arguments
 nesTriangle = record {
   buffer = λ a. a .buffer;
   checks = λ s a. 3 unless stateIn s (a .bits) ∷ 4 unless parametersIn (a .frequency) (a .bits) ∷ [];
-  moving = interpolators;
+  moving = λ s a. interpolators s (a .frequency) (length (a .buffer));
   rooms = λ a. rooms;
   sample = λ a. sampleAt (a .bits);
   phases = λ s. s .phase ∷ [];

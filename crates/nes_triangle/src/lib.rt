@@ -1,12 +1,13 @@
 // A triangle approximated by discrete steps: the source's oscillator/nes_triangle_oscillator.rs.
 ghost use mathlib.Core.Path.{_≡_};
-ghost use mathlib.Core.List.{[], _∷_};
-ghost use Rattle.rooms.specs.Steps.{stepsOf, firstOutside};
+ghost use mathlib.Core.List.{[], _∷_, _++_};
+ghost use Rattle.rooms.specs.Steps.{stillOne};
+ghost use Rattle.rooms.proofs.Padding.{used};
 ghost use Rattle.block.specs.Calls.{run};
 ghost use Rattle.block.specs.Fit.{Fit, Playable, playedOf};
 ghost use Rattle.nes_triangle.specs.State.{newState, initState};
 ghost use Rattle.nes_triangle.specs.Sample.{sampleAt};
-ghost use Rattle.nes_triangle.specs.Block.{stepIn, stateIn, parametersIn, rooms, renderOf, left};
+ghost use Rattle.nes_triangle.specs.Block.{stepIn, stateIn, parametersIn, interpolators as interpolatorsTo, rooms, renderOf, left};
 ghost use Rattle.nes_triangle.specs.Private.{Passed, refused};
 use block::Answer;
 use block::Counts;
@@ -73,9 +74,7 @@ pub fn render(state: State, frequency: f32, num_bits: u32, out: &mut [f32]) -> R
         return refuse(Answer::BadParam, state);
     }
     let n = out.len() as u32;
-    let target = floats::min(frequency, 0.25);
-    let fm = ParameterInterpolator::new(state.frequency, target, n);
-    drift_or_play(state, num_bits, fm, out)
+    drift_or_play(state, num_bits, interpolators(state, frequency, n), out)
 }
 
 fn state_in(s: State, num_bits: u32) -> bool
@@ -110,15 +109,30 @@ fn refuse(answer: Answer, state: State) -> Rendered
     }
 }
 
-// The first sample with a step outside its room.
-fn walk(fm: ParameterInterpolator, n: u32) -> Found
-    ensures { λ r. ⌜ r ≡ firstOutside rooms (stepsOf n (fm ∷ [])) ⌝ }
+// The frequency on its way to the target, over n samples; the other places are not used.
+fn interpolators(s: State, frequency: f32, n: u32) -> [ParameterInterpolator; 5]
+    ensures { λ r. ⌜ r ≡ interpolatorsTo s frequency n ++ stillOne ∷ stillOne ∷ stillOne ∷ stillOne ∷ [] ⌝ }
 {
-    let still = ParameterInterpolator {
-        value: 0.0,
-        increment: 0.0,
-    };
-    let moving = [fm, still, still, still, still];
+    let target = floats::min(frequency, 0.25);
+    [
+        ParameterInterpolator::new(s.frequency, target, n),
+        rooms::still(),
+        rooms::still(),
+        rooms::still(),
+        rooms::still(),
+    ]
+}
+
+// Drift where a step leaves its room, else the samples.
+fn drift_or_play(
+    state: State,
+    num_bits: u32,
+    p: [ParameterInterpolator; 5],
+    out: &mut [f32],
+) -> Rendered
+    requires { ⌜ Fit (Passed «num_bits») state (now out) ⌝ }
+    ensures { λ r. ⌜ left r (now (out .exit)) ≡ run (sampleAt «num_bits») rooms (used rooms p) state (now (out .entry)) ⌝ }
+{
     let kept = [
         Room::Frequency,
         Room::Unused,
@@ -126,38 +140,25 @@ fn walk(fm: ParameterInterpolator, n: u32) -> Found
         Room::Unused,
         Room::Unused,
     ];
-    rooms::first_outside(moving, kept, n)
-}
-
-// Drift where a step leaves its room, else the samples.
-fn drift_or_play(
-    state: State,
-    num_bits: u32,
-    fm: ParameterInterpolator,
-    out: &mut [f32],
-) -> Rendered
-    requires { ⌜ Fit (Passed «num_bits») state (now out) ⌝ }
-    ensures { λ r. ⌜ left r (now (out .exit)) ≡ run (sampleAt «num_bits») rooms (fm ∷ []) state (now (out .entry)) ⌝ }
-{
-    match walk(fm, out.len() as u32) {
+    match rooms::first_outside(p, kept, out.len() as u32) {
         Found::Outside(i) => refuse(Answer::Drift(i), state),
-        Found::Nowhere => play(state, num_bits, fm, out),
+        Found::Nowhere => play(state, num_bits, p, out),
     }
 }
 
 // Every sample of the buffer.
-fn play(state: State, num_bits: u32, fm: ParameterInterpolator, out: &mut [f32]) -> Rendered
-    requires { ⌜ Playable (Passed «num_bits») rooms state (fm ∷ []) (now out) ⌝ }
-    ensures { λ r. ⌜ left r (now (out .exit)) ≡ playedOf (sampleAt «num_bits») state (fm ∷ []) (now (out .entry)) ⌝ }
+fn play(state: State, num_bits: u32, p: [ParameterInterpolator; 5], out: &mut [f32]) -> Rendered
+    requires { ⌜ Playable (Passed «num_bits») rooms state (used rooms p) (now out) ⌝ }
+    ensures { λ r. ⌜ left r (now (out .exit)) ≡ playedOf (sampleAt «num_bits») state (used rooms p) (now (out .entry)) ⌝ }
 {
     let d = depth::of_bits(num_bits);
     let mut s = state;
-    let mut moving = fm;
+    let mut moving = p;
     let mut counts = block::none();
     let mut i = 0;
     while i < out.len() {
-        moving = moving.next();
-        let t = sample::sample(d, s, moving.value);
+        moving = rooms::advance(moving);
+        let t = sample::sample(d, s, moving[0].value);
         out[i] = t.sample;
         s = t.state;
         counts = block::sum(counts, t.counts);

@@ -1,11 +1,11 @@
 -- `nes_triangle::render` meets its contract: each way out is the definition's. Assumes nothing.
-use mathlib.Core.Path.{_∙_, sym, subst}
+use mathlib.Core.Path.{refl, _∙_, sym, subst}
 use lib.Dec.{T}
 use borrow.Author.Tests.{not-true, not-false, le-leb, lt-leb}
 use Rattle.block.specs.Checks.{here, later}
-use Rattle.block.proofs.Ways.{refused-by}
+use Rattle.block.proofs.Ways.{refused-by, run-from}
 use Rattle.nes_triangle.specs.Block.{nesTriangle}
-use Rattle.nes_triangle.proofs.Calls.{passed-of, rendered}
+use Rattle.nes_triangle.proofs.Calls.{passed-of}
 use borrow.Author.Needs.{needs}
 use Rattle.nes_triangle.proofs.render.Statement.{statement}
 use Rattle.nes_triangle.proofs.render.Tie as tie
@@ -27,7 +27,7 @@ returns-3 c =
 
 drift-or-play-requires : tie.Need-drift-or-play-requires
 drift-or-play-requires c κs =
-    let e = c .before .before .before in
+    let e = c .before .before in
     let p = e .before in
     let t = p .before .before in
     let g = t .before .before .before .good .0 in
@@ -37,12 +37,11 @@ returns-4 : tie.Need-returns-4
 returns-4 c =
     let d = c .before .before in
     let n = d .before .before in
-    let m = n .before in
-    let e = m .before in
+    let e = n .before in
     let p = e .before in
     let t = p .before .before in
-    rendered _ _ _ (le-leb _ _ (t .before .if1 .left), (sym (t .state-in .ensures) ∙ not-false _ (p .before .if2 .left), (sym (p .parameters-in .ensures) ∙ not-false _ (e .if3 .left), tt)))
-    _ _ (m .min .ensures) (n .new .ensures) (d .drift-or-play .ensures)
+    run-from nesTriangle _ _ refl (le-leb _ _ (t .before .if1 .left), (sym (t .state-in .ensures) ∙ not-false _ (p .before .if2 .left), (sym (p .parameters-in .ensures) ∙ not-false _ (e .if3 .left), tt)))
+    _ (n .interpolators .ensures) (d .drift-or-play .ensures)
 
 pub render-spec : {M : Type 1} → statement M
 render-spec =
@@ -57,7 +56,6 @@ render-spec =
     (λ c κs. search needs)
     returns-3
     (λ c. search needs)
-    (λ c κs. search needs)
     (λ c κs. search needs)
     drift-or-play-requires
     (λ c. search needs)

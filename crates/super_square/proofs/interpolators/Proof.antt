@@ -3,9 +3,6 @@ use borrow.Author.Needs.{needs}
 use Rattle.super_square.proofs.interpolators.Statement.{statement}
 use Rattle.super_square.proofs.interpolators.Tie as tie
 
-returns : tie.Need-returns
-returns c = cc
-
 pub interpolators-spec : {M : Type 1} → statement M
 interpolators-spec =
     tie.close
@@ -18,4 +15,4 @@ interpolators-spec =
     (λ c κs. search needs)
     (λ c κs. search needs)
     (λ c κs. search needs)
-    returns)
+    (λ c. cc))
