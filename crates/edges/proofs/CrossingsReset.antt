@@ -1,19 +1,37 @@
 -- A reset before the crossing loop: it takes nothing off what the loop starts from, and the loop may then not run. Assumes nothing.
-use mathlib.Core.Path.{_≡_}
+use mathlib.Core.Path.{_≡_, refl, sym, subst}
 use mathlib.Core.Bool.{Bool, true, false, cond}
-use Prim.Native.Nat.{_+_, _≤_}
 use native.Mathlib.Omega.{arith}
 use lib.Ieee.{Float}
+use Rattle.edges.specs.declared.AtReset.{AtReset}
 use Rattle.edges.specs.declared.Edge.{Edge}
-use Rattle.block.specs.Counting.{oneIf}
-use Rattle.edges.specs.Sync.{cutEdge}
-use Rattle.edges.proofs.Crossings.{Crossable, Crossed}
+use Rattle.edges.specs.Sync.{atResetOf, cutEdge, resetOf}
+use Rattle.edges.specs.CrossingLoop.{Crosses, Crossable}
+use Rattle.edges.proofs.CrossingLoop.{Counted, Crossed, looped, crossed-of}
 
-pub cut-crossable : (value time : Float) (b e : Edge) → e ≡ cutEdge value time b → Crossable b → Crossable e
-cut-crossable value time b e h k = rw h (record { phase = k .phase; no-rises = k .no-rises; no-falls = k .no-falls })
+-- e is the start b with a cut
+pub cut-crossable : {width : Float} (value time : Float) {a b e : Edge} → Crossable width a → b ≡ a → e ≡ cutEdge value time b → Crossable width e
+cut-crossable value time k p q = rw (q, p) (record { narrow = k .narrow; phase = k .phase; none = k .none })
 
--- c is what the loop makes of e; where it does not run, nothing is counted
-pub maybe-crossed : (c r e : Edge) (t : Bool) → Crossable e → Crossed (e .high) c → r ≡ cond t c e
-    → (r .rises ≤ 2) × (r .falls ≤ 1) × (r .rises + oneIf (e .high) ≡ r .falls + oneIf (r .high))
-maybe-crossed c r e true k x q = rw q (x .rises, x .falls, x .balance)
-maybe-crossed c r e false k x q = rw q (omega (arith, k .no-rises), omega (arith, k .no-falls), omega (arith, k .no-rises, k .no-falls))
+-- the edge of a reset, from its parts: what the functions that it calls ensure
+pub reset-is : (width : Float) (naive : Float → Float) (crossed : Edge → Edge) (slavePhase slaveFrequency time : Float) {found : AtReset} {value : Float} {a b e r : Edge}
+    → found ≡ atResetOf slavePhase (a .high) slaveFrequency width time → value ≡ naive (found .«slave_phase») → b ≡ a → e ≡ cutEdge value time b
+    → r ≡ cond (found .transition) (crossed e) e → r ≡ resetOf width naive crossed slavePhase slaveFrequency time a
+unfolding resetOf
+reset-is width naive crossed slavePhase slaveFrequency time at-found at-value at-b at-e at-r = rw (at-r, at-e, at-b, at-value, at-found)
+
+-- what it counts
+pub reset-counted : (x : Crosses) (naive : Float → Float) (slavePhase slaveFrequency time : Float) (a : Edge) → Crossable (x .width) a
+    → Counted (a .high) (resetOf (x .width) naive (looped x) slavePhase slaveFrequency time a)
+unfolding resetOf
+reset-counted x naive slavePhase slaveFrequency time a k = go (found .transition)
+  where
+    found : AtReset
+    found = atResetOf slavePhase (a .high) slaveFrequency (x .width) time
+
+    e : Edge
+    e = cutEdge (naive (found .«slave_phase»)) time a
+
+    go : (t : Bool) → Counted (a .high) (cond t (looped x e) e)
+    go true = crossed-of x (cut-crossable _ _ k refl refl) .counted
+    go false = record { rises = rw (k .none) (omega arith); falls = rw (k .none) (omega arith); balance = rw (k .none) refl }

@@ -1,5 +1,5 @@
 -- The laws of crossings, without a reset and with one.
-pub mod Crossings
+pub mod CrossingLoop
 pub mod CrossingsWrap
 pub mod CrossingsReset
 pub mod Tight

@@ -1,22 +1,34 @@
 -- Every public function's contract, as the kit reads it, determines its outcome. Assumes nothing.
 use mathlib.Core.Path.{refl}
 use Rattle.floats.proofs.Contracts.{Determines, coincide}
-use Rattle.edges.proofs.slave_at_reset
-use Rattle.edges.proofs.wrap_once
-use Rattle.edges.proofs.transition_during_reset
+use Rattle.edges.proofs.start
+use Rattle.edges.proofs.rose
+use Rattle.edges.proofs.fell
+use Rattle.edges.proofs.fell_if
+use Rattle.edges.proofs.counts
+use Rattle.edges.proofs.at_reset
 use Rattle.edges.proofs.cut
 use Rattle.edges.proofs.triangle.triangle
 use Rattle.edges.proofs.triangle.triangle_step
 use Rattle.edges.proofs.triangle.rise_time
 
-pub slave-at-reset-tight : Determines slave_at_reset.ended slave_at_reset.Reads.Learnt
-slave-at-reset-tight κs a r q v w h k = (coincide h k, refl)
+pub start-tight : Determines start.ended start.Reads.Learnt
+start-tight κs a r q v w h k = (coincide h k, refl)
 
-pub wrap-once-tight : Determines wrap_once.ended wrap_once.Reads.Learnt
-wrap-once-tight κs a r q v w h k = (coincide h k, refl)
+pub rose-tight : Determines rose.ended rose.Reads.Learnt
+rose-tight κs a r q v w h k = (coincide h k, refl)
 
-pub transition-during-reset-tight : Determines transition_during_reset.ended transition_during_reset.Reads.Learnt
-transition-during-reset-tight κs a r q v w h k = (coincide h k, refl)
+pub fell-tight : Determines fell.ended fell.Reads.Learnt
+fell-tight κs a r q v w h k = (coincide h k, refl)
+
+pub fell-if-tight : Determines fell_if.ended fell_if.Reads.Learnt
+fell-if-tight κs a r q v w h k = (coincide h k, refl)
+
+pub counts-tight : Determines counts.ended counts.Reads.Learnt
+counts-tight κs a r q v w h k = (coincide h k, refl)
+
+pub at-reset-tight : Determines at_reset.ended at_reset.Reads.Learnt
+at-reset-tight κs a r q v w h k = (coincide h k, refl)
 
 pub cut-tight : Determines cut.ended cut.Reads.Learnt
 cut-tight κs a r q v w h k = (coincide h k, refl)

@@ -6,26 +6,24 @@ use Prim.Native.Nat.{ℕ, _+_, _*_, _≤_}
 use native.Mathlib.Omega.{arith}
 use lib.ListN.{getD}
 use lib.Ieee.{Float, le}
-use Rattle.floats.specs.F32.{_⊕_, _⊖_, _⊘_, zero32, half32, one32}
+use Rattle.floats.specs.F32.{_⊕_, _⊖_, _⊘_, zero32, one32}
 use Rattle.floats.proofs.Ticks.{tick, cycle, one-at, tick-pos, Sum}
 use Rattle.floats.proofs.Turn.{Step, turn-1, turn-sum, turn-wraps, turn-stays}
 use Rattle.floats.proofs.Ranges.{Under, passed-le, failed-le, mul-le, reset-time}
-use Rattle.edges.specs.declared.Edge.{Edge}
 use Rattle.block.specs.Counting.{oneIf}
-use Rattle.edges.specs.Sync.{transitionDuringReset, slaveAtReset, wrapOnce, cutEdge}
 use Rattle.rooms.specs.Steps.{allIn}
 use Rattle.rooms.proofs.RangeLaws.{frequency-step, step-frequency}
 use Rattle.floats.proofs.Bools.{and-both}
 use Rattle.block.specs.Fit.{Inside}
 use Rattle.block.proofs.Plays.{one-most, Keeps}
-use Rattle.edges.proofs.Crossings.{Crossable, Crossed, crossed-of}
-use Rattle.edges.proofs.CrossingsReset.{cut-crossable, maybe-crossed}
+use Rattle.edges.proofs.CrossingLoop.{Counted, crossed-of}
+use Rattle.edges.proofs.CrossingsReset.{reset-counted}
 use Rattle.super_square.specs.declared.State.{State}
 use Rattle.super_square.specs.declared.sample.Sampled.{Sampled}
-use Rattle.super_square.specs.Sample.{level, crossed, edgeOf, finish, resetEdge, resetSample, plainSample, sampleOf, sampleAt}
+use Rattle.super_square.specs.Sample.{level, edgeOf, finish, resetEdge, resetSample, plainSample, sampleOf, sampleAt}
 use Rattle.super_square.specs.Block.{rooms}
 use Rattle.super_square.specs.Private.{Valid, Ready}
-use Rattle.super_square.proofs.Edges.{crosses, half-narrow, edge-crossable}
+use Rattle.super_square.proofs.Edges.{crosses, edge-crossable}
 
 -- what one sample does to a master's phase of a units with a step of b, and to all else
 pub record Law (s : State) (masterFrequency slaveFrequency : Float) (a b : ℕ) (t : Sampled) : Type 0 where
@@ -42,32 +40,23 @@ module _ (s : State) (masterFrequency slaveFrequency : Float) (h : Ready s maste
   sum : Sum (s .«master_phase» ⊕ masterFrequency) (h .valid .master .n) (h .master .n) (21233664 * tick) tick
   sum = turn-sum turn-1 (h .valid .master .at) (h .master .at) (omega (arith, h .valid .master .under, h .master .most))
 
-  all-crossed : (e : Edge) → Crossable e → Crossed (e .high) (crossed slaveFrequency e)
-  all-crossed e k = crossed-of half32 _ _ (crosses slaveFrequency) half-narrow e k
-
   plain-law : le one32 (s .«master_phase» ⊕ masterFrequency) ≡ false → Law s masterFrequency slaveFrequency (h .valid .master .n) (h .master .n) (plainSample s masterFrequency slaveFrequency (s .«master_phase» ⊕ masterFrequency))
-  unfolding plainSample finish edgeOf
+  unfolding plainSample finish
   plain-law l =
-      let c = all-crossed (edgeOf s slaveFrequency) (edge-crossable h) in
+      let c = crossed-of (crosses slaveFrequency) (edge-crossable h) in
       record {
         master = turn-stays turn-1 sum (failed-le one-at (sum .at) l);
         slave = c .phase;
         master-frequency = refl;
         slave-frequency = refl;
-        rises = c .rises;
-        falls = c .falls;
+        rises = c .counted .rises;
+        falls = c .counted .falls;
         cuts = omega arith;
-        balance = omega (arith, c .balance);
+        balance = omega (arith, c .counted .balance);
       }
 
-  reset-counts : (time : Float) → (let r = resetEdge s slaveFrequency time in
-      (r .rises ≤ 2) × (r .falls ≤ 1) × (r .rises + oneIf (s .high) ≡ r .falls + oneIf (r .high)))
-  unfolding resetEdge edgeOf
-  reset-counts time =
-      let reached = slaveAtReset (s .«slave_phase») slaveFrequency time in
-      let e = cutEdge (level (wrapOnce reached)) time (edgeOf s slaveFrequency) in
-      let k = cut-crossable (level (wrapOnce reached)) time (edgeOf s slaveFrequency) e refl (edge-crossable h) in
-      maybe-crossed (crossed slaveFrequency e) (resetEdge s slaveFrequency time) e (transitionDuringReset (s .high) half32 reached) k (all-crossed e k) refl
+  reset-counts : (time : Float) → Counted (s .high) (resetEdge s slaveFrequency time)
+  reset-counts time = reset-counted (crosses slaveFrequency) level (s .«slave_phase») slaveFrequency time (edgeOf s slaveFrequency) (edge-crossable h)
 
   reset-law : le one32 (s .«master_phase» ⊕ masterFrequency) ≡ true → Law s masterFrequency slaveFrequency (h .valid .master .n) (h .master .n) (resetSample s masterFrequency slaveFrequency (s .«master_phase» ⊕ masterFrequency ⊖ one32))
   unfolding resetSample finish
@@ -81,10 +70,10 @@ module _ (s : State) (masterFrequency slaveFrequency : Float) (h : Ready s maste
         slave = record { n = slave .n; at = slave .at; under = omega (arith, slave .most, h .slave .most, tick-pos) };
         master-frequency = refl;
         slave-frequency = refl;
-        rises = c .0;
-        falls = c .1;
+        rises = c .rises;
+        falls = c .falls;
         cuts = one-most (resetEdge s slaveFrequency (masterPhase ⊘ masterFrequency) .high);
-        balance = omega (arith, c .2);
+        balance = omega (arith, c .balance);
       }
 
   pub sample-law : Law s masterFrequency slaveFrequency (h .valid .master .n) (h .master .n) (sampleOf s masterFrequency slaveFrequency)

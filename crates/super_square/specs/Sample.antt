@@ -1,15 +1,16 @@
 -- One sample of the super square: super_square_oscillator.rs, lines 60 to 131, in its order. Assumes nothing.
 use mathlib.Core.Bool.{Bool, true, false, cond}
 use mathlib.Core.List.{List}
-use Prim.Native.Nat.{ℕ, _+_}
+use Prim.Native.Nat.{ℕ}
 use lib.ListN.{getD}
 use lib.Ieee.{Float, lt, le}
 use Rattle.floats.specs.F32.{_⊕_, _⊖_, _⊗_, _⊘_, zero32, half32, one32, two32}
 use Rattle.polyblep.specs.Polyblep.{thisBlepSample, nextBlepSample}
 use Rattle.edges.specs.declared.Edge.{Edge}
 use Rattle.block.specs.Counting.{oneIf}
-use Rattle.edges.specs.Crossings.{crossings}
-use Rattle.edges.specs.Sync.{resetTime, slaveAtReset, wrapOnce, transitionDuringReset, cutEdge}
+use Rattle.edges.specs.Counted.{startOf, rose, fell, countsOf}
+use Rattle.edges.specs.CrossingLoop.{crossingLoop}
+use Rattle.edges.specs.Sync.{resetTime, resetOf}
 use Rattle.block.specs.Play.{Sample}
 use Rattle.super_square.specs.declared.State.{State}
 use Rattle.super_square.specs.declared.sample.Sampled.{Sampled}
@@ -27,8 +28,7 @@ riseOf slaveFrequency e =
       high = true;
       «this_sample» = e .«this_sample» ⊕ thisBlepSample t;
       «next_sample» = e .«next_sample» ⊕ nextBlepSample t;
-      rises = e .rises + 1;
-      falls = e .falls;
+      crossings = rose (e .crossings);
     }
 
 -- down through 1, where the phase wraps, lines 113 to 117
@@ -41,31 +41,20 @@ fallOf slaveFrequency e =
       high = false;
       «this_sample» = e .«this_sample» ⊖ thisBlepSample t;
       «next_sample» = e .«next_sample» ⊖ nextBlepSample t;
-      rises = e .rises;
-      falls = e .falls + 1;
+      crossings = fell (e .crossings);
     }
 
 -- the loop around the two crossings, lines 98 to 119
 abbrev pub crossed : Float → Edge → Edge
-crossed slaveFrequency e = crossings half32 (riseOf slaveFrequency) (fallOf slaveFrequency) e
+crossed slaveFrequency e = crossingLoop half32 (riseOf slaveFrequency) (fallOf slaveFrequency) e
 
 -- the slave's step, lines 65, 66 and 95: this sample starts with what the last one left for it
-unfoldable pub edgeOf : State → Float → Edge
-edgeOf s slaveFrequency = record {
-  phase = s .«slave_phase» ⊕ slaveFrequency;
-  high = s .high;
-  «this_sample» = s .«next_sample»;
-  «next_sample» = zero32;
-  rises = 0;
-  falls = 0;
-}
+abbrev pub edgeOf : State → Float → Edge
+edgeOf s slaveFrequency = startOf (s .«slave_phase» ⊕ slaveFrequency) (s .high) (s .«next_sample»)
 
 -- the edge of a sample whose master wrapped `time` samples ago, lines 77 to 120: crossed only where a transition falls before the reset
-unfoldable pub resetEdge : State → Float → Float → Edge
-resetEdge s slaveFrequency time =
-    let reached = slaveAtReset (s .«slave_phase») slaveFrequency time in
-    let e = cutEdge (level (wrapOnce reached)) time (edgeOf s slaveFrequency) in
-    cond (transitionDuringReset (s .high) half32 reached) (crossed slaveFrequency e) e
+abbrev pub resetEdge : State → Float → Float → Edge
+resetEdge s slaveFrequency time = resetOf half32 level (crossed slaveFrequency) (s .«slave_phase») slaveFrequency time (edgeOf s slaveFrequency)
 
 -- The state after a sample. What the next one starts with gets the square (line 127) and is stored after the last sample (line 131).
 -- The source stores the frequencies as it drops their interpolators, and what it stores is the last step.
@@ -84,7 +73,7 @@ unfoldable pub finish : Edge → State → ℕ → ℕ → Sampled
 finish e s cycles cuts = record {
   state = s;
   sample = two32 ⊗ e .«this_sample» ⊖ one32;
-  counts = record { cycles = cycles; rises = e .rises; falls = e .falls; cuts = cuts };
+  counts = countsOf cycles (e .crossings) cuts;
 }
 
 -- with a reset, lines 73 to 93 and 122 to 125. 01 counts a cut where it finds `high` true just before clearing it.

@@ -1,7 +1,7 @@
-// One sample of the super square, in the source's order.
+// One sample of the super square, in the source's order: super_square_oscillator.rs, lines 60 to 131.
 ghost use mathlib.Core.Path.{_≡_};
-ghost use Prim.Native.Nat.{_<_};
-ghost use Rattle.edges.proofs.Crossings.{Crossable};
+ghost use Rattle.floats.specs.F32.{half32};
+ghost use Rattle.edges.specs.CrossingLoop.{Crossable};
 ghost use Rattle.super_square.specs.Sample.{level as levelOf, riseOf, fallOf, crossed, edgeOf, resetEdge, after as stateAfter, finish as finished, resetSample, plainSample, sampleOf};
 ghost use Rattle.super_square.specs.Private.{Ready};
 use crate::State;
@@ -14,48 +14,48 @@ pub struct Sampled {
     pub counts: Counts,
 }
 
+// The square without its smoothing, lines 90 and 127. The source has no function for it, and writes it twice.
 fn level(phase: f32) -> f32
     ensures { λ r. ⌜ r ≡ levelOf phase ⌝ }
 {
     if phase < 0.5 { 0.0 } else { 1.0 }
 }
 
-// Up through 0.5.
+// Up through 0.5, lines 103 to 106. The phase may have passed 1 too: the fall comes after.
 fn rise(e: Edge, slave_frequency: f32) -> Edge
-    requires { ⌜ e .rises < 2 ⌝ }
     ensures { λ r. ⌜ r ≡ riseOf «slave_frequency» e ⌝ }
 {
     let t = (e.phase - 0.5) / slave_frequency;
+    let crossings = e.crossings;
     Edge {
         phase: e.phase,
         high: true,
         this_sample: e.this_sample + polyblep::this_blep_sample(t),
         next_sample: e.next_sample + polyblep::next_blep_sample(t),
-        rises: e.rises + 1,
-        falls: e.falls,
+        crossings: edges::rose(crossings),
     }
 }
 
-// Down through 1, where the phase wraps.
+// Down through 1, where the phase wraps, lines 113 to 117: t is taken from the wrapped phase.
 fn fall(e: Edge, slave_frequency: f32) -> Edge
-    requires { ⌜ e .falls < 1 ⌝ }
     ensures { λ r. ⌜ r ≡ fallOf «slave_frequency» e ⌝ }
 {
     let phase = e.phase - 1.0;
     let t = phase / slave_frequency;
+    let crossings = e.crossings;
     Edge {
         phase,
         high: false,
         this_sample: e.this_sample - polyblep::this_blep_sample(t),
         next_sample: e.next_sample - polyblep::next_blep_sample(t),
-        rises: e.rises,
-        falls: e.falls + 1,
+        crossings: edges::fell(crossings),
     }
 }
 
-// The source's loop around the two crossings.
+// The source's loop around the two crossings, lines 98 to 119. It ends because a step is less than a cycle: a low slave may rise, fall and rise
+// again, and no more.
 fn cross(edge: Edge, slave_frequency: f32) -> Edge
-    requires { ⌜ Crossable edge ⌝ }
+    requires { ⌜ Crossable half32 edge ⌝ }
     ensures { λ r. ⌜ r ≡ crossed «slave_frequency» edge ⌝ }
 {
     let mut e = edge;
@@ -74,36 +74,29 @@ fn cross(edge: Edge, slave_frequency: f32) -> Edge
     e
 }
 
-// The slave's step.
+// The slave's step, lines 65, 66 and 95, which comes after the reset in the source. A reset reads the phase as it was before.
 fn edge(s: State, slave_frequency: f32) -> Edge
     ensures { λ r. ⌜ r ≡ edgeOf s «slave_frequency» ⌝ }
 {
-    Edge {
-        phase: s.slave_phase + slave_frequency,
-        high: s.high,
-        this_sample: s.next_sample,
-        next_sample: 0.0,
-        rises: 0,
-        falls: 0,
-    }
+    edges::start(s.slave_phase + slave_frequency, s.high, s.next_sample)
 }
 
-// The edge of a sample whose master wrapped `time` samples ago.
+// The edge of a sample whose master wrapped `time` samples ago, lines 77 to 120. Where no transition falls before the reset, the slave's step crosses
+// nothing: the reset puts its phase back.
 fn reset_edge(s: State, slave_frequency: f32, time: f32) -> Edge
-    requires { ⌜ Crossable (edgeOf s «slave_frequency») ⌝ }
+    requires { ⌜ Crossable half32 (edgeOf s «slave_frequency») ⌝ }
     ensures { λ r. ⌜ r ≡ resetEdge s «slave_frequency» time ⌝ }
 {
-    let reached = edges::slave_at_reset(s.slave_phase, slave_frequency, time);
-    let value = level(edges::wrap_once(reached));
-    let e = edges::cut(edge(s, slave_frequency), value, time);
-    if edges::transition_during_reset(s.high, 0.5, reached) {
+    let found = edges::at_reset(s.slave_phase, s.high, slave_frequency, 0.5, time);
+    let e = edges::cut(edge(s, slave_frequency), level(found.slave_phase), time);
+    if found.transition {
         cross(e, slave_frequency)
     } else {
         e
     }
 }
 
-// The state after a sample, with what the next one starts with.
+// The state after a sample, with what the next one starts with: the source adds the square to it last, line 127.
 fn after(
     e: Edge,
     master_phase: f32,
@@ -124,25 +117,21 @@ fn after(
     }
 }
 
-// The end of a sample: `s` is the state after it.
+// The end of a sample: `s` is the state after it. What is put out goes from -1 to 1, line 128.
 fn finish(e: Edge, s: State, cycles: u32, cuts: u32) -> Sampled
     ensures { λ r. ⌜ r ≡ finished e s cycles cuts ⌝ }
 {
+    let crossings = e.crossings;
     Sampled {
         state: s,
         sample: 2.0 * e.this_sample - 1.0,
-        counts: Counts {
-            cycles,
-            rises: e.rises,
-            falls: e.falls,
-            cuts,
-        },
+        counts: edges::counts(cycles, crossings, cuts),
     }
 }
 
-// With a reset.
+// With a reset, lines 73 to 93 and 122 to 125: the slave starts anew, low, from where it is `time` after the reset. A high one is cut.
 fn reset_sample(s: State, master_frequency: f32, slave_frequency: f32, master_phase: f32) -> Sampled
-    requires { ⌜ Crossable (edgeOf s «slave_frequency») ⌝ }
+    requires { ⌜ Crossable half32 (edgeOf s «slave_frequency») ⌝ }
     ensures { λ r. ⌜ r ≡ resetSample s «master_frequency» «slave_frequency» «master_phase» ⌝ }
 {
     let time = master_phase / master_frequency;
@@ -159,9 +148,9 @@ fn reset_sample(s: State, master_frequency: f32, slave_frequency: f32, master_ph
     finish(e, t, 1, block::one_if(e.high))
 }
 
-// Without one.
+// Without one, lines 95 to 120.
 fn plain_sample(s: State, master_frequency: f32, slave_frequency: f32, master_phase: f32) -> Sampled
-    requires { ⌜ Crossable (edgeOf s «slave_frequency») ⌝ }
+    requires { ⌜ Crossable half32 (edgeOf s «slave_frequency») ⌝ }
     ensures { λ r. ⌜ r ≡ plainSample s «master_frequency» «slave_frequency» «master_phase» ⌝ }
 {
     let e = cross(edge(s, slave_frequency), slave_frequency);
@@ -176,6 +165,7 @@ fn plain_sample(s: State, master_frequency: f32, slave_frequency: f32, master_ph
     finish(e, t, 0, 0)
 }
 
+// The master's step, lines 71 to 74: a phase of exactly 1 wraps, and so resets.
 pub(crate) fn sample(s: State, master_frequency: f32, slave_frequency: f32) -> Sampled
     requires { ⌜ Ready s «master_frequency» «slave_frequency» ⌝ }
     ensures { λ r. ⌜ r ≡ sampleOf s «master_frequency» «slave_frequency» ⌝ }

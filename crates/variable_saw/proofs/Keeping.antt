@@ -17,9 +17,11 @@ use Rattle.block.specs.Limits.{Balanced}
 use Rattle.rooms.specs.Steps.{allIn}
 use Rattle.floats.proofs.Bools.{and-both}
 use Rattle.block.specs.Fit.{Inside}
+use Rattle.block.specs.Counting.{oneIf}
 use Rattle.block.proofs.Plays.{one-most, Keeps}
 use Rattle.rooms.proofs.RangeLaws.{frequency-step, step-frequency, width-unit}
 use Rattle.edges.specs.declared.Edge.{Edge}
+use Rattle.edges.specs.Counted.{noCrossings, fellIf}
 use Rattle.variable_saw.specs.declared.State.{State}
 use Rattle.variable_saw.specs.declared.sample.Wave.{Wave}
 use Rattle.variable_saw.specs.declared.sample.Sampled.{Sampled}
@@ -49,6 +51,11 @@ pub record Law (s : State) (frequency pw waveshape : Float) (a b : ℕ) (t : Sam
   pub falls : t .counts .falls ≤ 1
   pub cuts : t .counts .cuts ≡ 0
   pub balance : Balanced (s .high) (t .counts) (t .state .high)
+
+-- what a wrap counts: a fall where the phase was high
+one-fall : (high : Bool) → fellIf high noCrossings ≡ record { rises = 0; falls = oneIf high }
+one-fall true = refl
+one-fall false = refl
 
 reach-least : (high : Bool) → cycle ≤ reach high
 reach-least true = omega (arith, tick-pos)
@@ -84,7 +91,7 @@ module _ (s : State) (frequency pw waveshape : Float) (h : Ready s frequency pw 
 
   -- a rise leaves the phase where it is, so that it may be above 1
   rise-law : s .high ≡ false → Meets (finish w frequency 0 rose)
-  unfolding finish riseOf edgeOf
+  unfolding finish riseOf
   rise-law l = record {
     phase = turn-stays turn-1 (sum-low l) (omega (arith, sum-low l .top));
     stored = stored 0 rose;
@@ -96,19 +103,19 @@ module _ (s : State) (frequency pw waveshape : Float) (h : Ready s frequency pw 
 
   -- a wrap leaves it below 1, and low
   wrap-law : le one32 (s .phase ⊕ frequency) ≡ true → Meets (finish w frequency 1 (wrapOf w frequency e))
-  unfolding finish wrapOf edgeOf
+  unfolding finish wrapOf
   wrap-law l = record {
     phase = turn-wraps turn-saw sum (passed-le one-at (sum .at) l);
     stored = stored 1 (wrapOf w frequency e);
-    rises = omega arith;
-    falls = one-most (s .high);
+    rises = rw (one-fall (s .high)) (omega arith);
+    falls = rw (one-fall (s .high)) (one-most (s .high));
     cuts = refl;
-    balance = omega arith;
+    balance = rw (one-fall (s .high)) (omega arith);
   }
 
   -- without either it has not come to 1, on whichever side
   stay-law : le one32 (s .phase ⊕ frequency) ≡ false → Meets (finish w frequency 0 e)
-  unfolding finish edgeOf
+  unfolding finish
   stay-law l = record {
     phase = turn-stays turn-saw sum (omega (arith, failed-le one-at (sum .at) l, reach-least (s .high)));
     stored = stored 0 e;
@@ -119,7 +126,7 @@ module _ (s : State) (frequency pw waveshape : Float) (h : Ready s frequency pw 
   }
 
   pub sample-law : Meets (sampleOf s frequency pw waveshape)
-  unfolding sampleOf edgeOf
+  unfolding sampleOf
   sample-law = go (not (s .high) && le pw (s .phase ⊕ frequency)) (le one32 (s .phase ⊕ frequency)) refl refl
     where
       go : (r o : Bool) → (not (s .high) && le pw (s .phase ⊕ frequency)) ≡ r → le one32 (s .phase ⊕ frequency) ≡ o

@@ -8,7 +8,7 @@ use Rattle.floats.specs.F32.{_⊕_, _⊖_, _⊗_, _⊘_, f32, zero32, one32, tw
 use Rattle.polyblep.specs.Polyblep.{thisBlepSample, nextBlepSample, thisIntegratedBlepSample, nextIntegratedBlepSample}
 use Rattle.edges.specs.declared.Edge.{Edge}
 use Rattle.edges.specs.Triangle.{triangle, triangleStep, riseTime}
-use Rattle.block.specs.Counting.{oneIf}
+use Rattle.edges.specs.Counted.{startOf, rose, fellIf, countsOf}
 use Rattle.block.specs.Play.{Sample}
 use Rattle.variable_saw.specs.declared.State.{State}
 use Rattle.variable_saw.specs.declared.sample.Wave.{Wave}
@@ -49,8 +49,7 @@ riseOf w frequency previousPw e =
       high = true;
       «this_sample» = e .«this_sample» ⊕ notch ⊗ thisBlepSample t ⊖ step ⊗ thisIntegratedBlepSample t;
       «next_sample» = e .«next_sample» ⊕ notch ⊗ nextBlepSample t ⊖ step ⊗ nextIntegratedBlepSample t;
-      rises = 1;
-      falls = 0;
+      crossings = rose (e .crossings);
     }
 
 -- down through 1, where the phase wraps, lines 86 to 94. 01 counts a fall where `high` turns false, and so only where it was true.
@@ -65,20 +64,12 @@ wrapOf w frequency e =
       high = false;
       «this_sample» = e .«this_sample» ⊖ notch ⊗ thisBlepSample t ⊕ step ⊗ thisIntegratedBlepSample t;
       «next_sample» = e .«next_sample» ⊖ notch ⊗ nextBlepSample t ⊕ step ⊗ nextIntegratedBlepSample t;
-      rises = 0;
-      falls = oneIf (e .high);
+      crossings = fellIf (e .high) (e .crossings);
     }
 
 -- the step, lines 63, 64 and 74: this sample starts with what the last one left for it
-unfoldable pub edgeOf : State → Float → Edge
-edgeOf s frequency = record {
-  phase = s .phase ⊕ frequency;
-  high = s .high;
-  «this_sample» = s .«next_sample»;
-  «next_sample» = zero32;
-  rises = 0;
-  falls = 0;
-}
+abbrev pub edgeOf : State → Float → Edge
+edgeOf s frequency = startOf (s .phase ⊕ frequency) (s .high) (s .«next_sample»)
 
 -- The end of a sample, lines 97 to 107, and 110 for what the next one starts with. The source stores frequency, width and waveshape as it drops their interpolators, and what it
 -- stores is the last step.
@@ -94,7 +85,7 @@ finish w frequency cycles e = record {
     waveshape = w .«triangle_amount»;
   };
   sample = (two32 ⊗ e .«this_sample» ⊖ one32) ⊘ (one32 ⊕ notchDepth);
-  counts = record { cycles = cycles; rises = e .rises; falls = e .falls; cuts = 0 };
+  counts = countsOf cycles (e .crossings) 0;
 }
 
 -- the two tests, lines 76 and 85: a rise or else a wrap, never both

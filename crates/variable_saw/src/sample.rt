@@ -1,4 +1,4 @@
-// One sample of the variable saw, in the source's order.
+// One sample of the variable saw, in the source's order: variable_saw_oscillator.rs, lines 62 to 110.
 ghost use mathlib.Core.Path.{_≡_};
 ghost use Rattle.variable_saw.specs.Sample.{waveOf, notchSaw, naive, riseOf, wrapOf, edgeOf, finish as finished, sampleOf};
 use crate::State;
@@ -24,6 +24,7 @@ pub struct Wave {
 }
 
 impl Wave {
+    // Lines 69 to 72. A slope is an infinity where the width is 0 or 1; a width in its room is neither.
     fn new(pw: f32, waveshape: f32) -> Self
         ensures { λ r. ⌜ r ≡ waveOf pw waveshape ⌝ }
     {
@@ -37,6 +38,7 @@ impl Wave {
     }
 }
 
+// A saw that stops at the width, lines 123 to 127: from there on it stands above 1 by the notch's depth.
 fn notch_saw(phase: f32, pw: f32) -> f32
     ensures { λ r. ⌜ r ≡ notchSaw phase pw ⌝ }
 {
@@ -47,6 +49,7 @@ fn notch_saw(phase: f32, pw: f32) -> f32
     }
 }
 
+// The waveform without its smoothing, lines 115 to 135: that saw and the triangle, mixed.
 fn compute_naive_sample(phase: f32, w: Wave) -> f32
     ensures { λ r. ⌜ r ≡ naive phase w ⌝ }
 {
@@ -54,13 +57,15 @@ fn compute_naive_sample(phase: f32, w: Wave) -> f32
         + triangle::triangle(phase, w.pw, w.slope_up, w.slope_down) * w.triangle_amount
 }
 
-// Up through the width. The phase may have passed 1 too: it then stays there until the next sample.
+// Up through the width, lines 77 to 84. The phase may have passed 1 too: it then stays there until the next sample. t is an infinity or a NaN where
+// the width has moved up by just the frequency, as in the source.
 fn rise(e: Edge, w: Wave, frequency: f32, previous_pw: f32) -> Edge
     ensures { λ r. ⌜ r ≡ riseOf w frequency «previous_pw» e ⌝ }
 {
     let step = triangle::triangle_step(w.slope_up, w.slope_down, frequency, w.triangle_amount);
     let notch = (VARIABLE_SAW_NOTCH_DEPTH + 1.0 - w.pw) * w.notch_amount;
     let t = triangle::rise_time(e.phase, w.pw, previous_pw, frequency);
+    let crossings = e.crossings;
     Edge {
         phase: e.phase,
         high: true,
@@ -68,12 +73,12 @@ fn rise(e: Edge, w: Wave, frequency: f32, previous_pw: f32) -> Edge
             - step * polyblep::this_integrated_blep_sample(t),
         next_sample: e.next_sample + notch * polyblep::next_blep_sample(t)
             - step * polyblep::next_integrated_blep_sample(t),
-        rises: 1,
-        falls: 0,
+        crossings: edges::rose(crossings),
     }
 }
 
-// Down through 1, where the phase wraps.
+// Down through 1, where the phase wraps, lines 86 to 94. The test lets a low phase in where the width is above 1 or no number, as none in its room is: that
+// would be no fall.
 fn wrap(e: Edge, w: Wave, frequency: f32) -> Edge
     ensures { λ r. ⌜ r ≡ wrapOf w frequency e ⌝ }
 {
@@ -81,6 +86,7 @@ fn wrap(e: Edge, w: Wave, frequency: f32) -> Edge
     let step = triangle::triangle_step(w.slope_up, w.slope_down, frequency, w.triangle_amount);
     let notch = (VARIABLE_SAW_NOTCH_DEPTH + 1.0) * w.notch_amount;
     let t = phase / frequency;
+    let crossings = e.crossings;
     Edge {
         phase,
         high: false,
@@ -88,29 +94,22 @@ fn wrap(e: Edge, w: Wave, frequency: f32) -> Edge
             + step * polyblep::this_integrated_blep_sample(t),
         next_sample: e.next_sample - notch * polyblep::next_blep_sample(t)
             + step * polyblep::next_integrated_blep_sample(t),
-        rises: 0,
-        falls: block::one_if(e.high),
+        crossings: edges::fell_if(e.high, crossings),
     }
 }
 
-// The step.
+// The step, lines 63, 64 and 74.
 fn edge(s: State, frequency: f32) -> Edge
     ensures { λ r. ⌜ r ≡ edgeOf s frequency ⌝ }
 {
-    Edge {
-        phase: s.phase + frequency,
-        high: s.high,
-        this_sample: s.next_sample,
-        next_sample: 0.0,
-        rises: 0,
-        falls: 0,
-    }
+    edges::start(s.phase + frequency, s.high, s.next_sample)
 }
 
-// The end of a sample.
+// The end of a sample, lines 97 to 107: what the next one starts with gets the waveform, and what is put out goes from -1 to 1 with the notch's depth.
 fn finish(e: Edge, w: Wave, frequency: f32, cycles: u32) -> Sampled
     ensures { λ r. ⌜ r ≡ finished w frequency cycles e ⌝ }
 {
+    let crossings = e.crossings;
     Sampled {
         state: State {
             phase: e.phase,
@@ -122,16 +121,11 @@ fn finish(e: Edge, w: Wave, frequency: f32, cycles: u32) -> Sampled
             waveshape: w.triangle_amount,
         },
         sample: (2.0 * e.this_sample - 1.0) / (1.0 + VARIABLE_SAW_NOTCH_DEPTH),
-        counts: Counts {
-            cycles,
-            rises: e.rises,
-            falls: e.falls,
-            cuts: 0,
-        },
+        counts: edges::counts(cycles, crossings, 0),
     }
 }
 
-// A rise or else a wrap, never both.
+// Lines 76 and 85: a rise or else a wrap, never both. Cycles are the wraps, and there is no sync, so no cuts.
 pub(crate) fn sample(s: State, frequency: f32, pw: f32, waveshape: f32) -> Sampled
     ensures { λ r. ⌜ r ≡ sampleOf s frequency pw waveshape ⌝ }
 {

@@ -17,16 +17,16 @@ use Rattle.block.specs.Counting.{oneIf}
 use Rattle.rooms.specs.declared.Room.the-variants.{Unused}
 use Rattle.ranges.specs.Ranges.{sixteenIn}
 use Rattle.block.specs.Limits.{Balanced}
-use Rattle.edges.specs.Sync.{transitionDuringReset, slaveAtReset, wrapOnce, cutEdge}
 use Rattle.block.specs.Fit.{Inside}
 use Rattle.block.proofs.Plays.{one-most, Keeps}
 use Rattle.ranges.proofs.AllOf.{of-each}
 use Rattle.rooms.proofs.RangeLaws.{under-phase, frequency-step, step-frequency, width-step, step-width}
 use Rattle.block.proofs.InsideAt.{inside-at}
 use Rattle.block.proofs.Accounts.{OneSample}
-use Rattle.edges.proofs.Crossings.{Crossable, Crossed, crossed-of}
-use Rattle.edges.proofs.CrossingsWrap.{Wraps, crossings-wrap}
-use Rattle.edges.proofs.CrossingsReset.{cut-crossable, maybe-crossed}
+use Rattle.edges.specs.CrossingLoop.{Crossable}
+use Rattle.edges.proofs.CrossingLoop.{Counted, crossed-of}
+use Rattle.edges.proofs.CrossingsWrap.{loop-wraps}
+use Rattle.edges.proofs.CrossingsReset.{reset-counted}
 use Rattle.variable_shape.specs.declared.State.{State}
 use Rattle.variable_shape.specs.declared.steps.Steps.{Steps}
 use Rattle.variable_shape.specs.declared.waveform.Waveform.{Waveform}
@@ -36,7 +36,7 @@ use Rattle.variable_shape.specs.Sample.{crossed, edgeOf, finish, resetEd
 use Rattle.variable_shape.specs.Block.{stateIn, rooms, countedPhase}
 use Rattle.variable_shape.specs.Private.{Valid, Ready}
 use Rattle.variable_shape.proofs.Calls.{modulation-in}
-use Rattle.variable_shape.proofs.Edges.{crosses, edge-crossing}
+use Rattle.variable_shape.proofs.Edges.{crosses, edge-crossable}
 
 -- what one sample does
 pub record Law (sync : Bool) (s : State) (steps : Steps) (t : Sampled) : Type 0 where
@@ -79,34 +79,31 @@ module _ (s : State) (steps : Steps) (h : Ready s steps) where
   abbrev wave : Waveform
   wave = waveformOf steps (s .«previous_pw»)
 
-  all-crossed : (e : Edge) → Crossable e → Crossed (e .high) (crossed wave e)
-  unfolding waveformOf
-  all-crossed e k = crossed-of (steps .pw) _ _ (crosses wave) (h .width) e k
-
   abbrev start : Edge
   start = edgeOf s (steps .«slave_frequency»)
 
-  -- ---- without a reset
-  all-wrapped : Wraps start (crossed wave start)
+  starts : Crossable (wave .pw) start
   unfolding waveformOf
-  all-wrapped = crossings-wrap (steps .pw) _ _ (crosses wave) (h .width) start (edge-crossing h .edge)
+  starts = edge-crossable h
 
-  slave-step : Step (crossed wave start .phase) (crossed wave start .falls) (h .valid .slave .n) (h .slave .n) cycle tick cycle
-  unfolding edgeOf
-  slave-step = rw (all-wrapped .phase, all-wrapped .falls) (phase-step (h .valid .slave .at) (h .slave .at) (h .valid .slave .under) (h .slave .most))
+  -- ---- without a reset
+  slave-step : Step (crossed wave start .phase) (crossed wave start .crossings .falls) (h .valid .slave .n) (h .slave .n) cycle tick cycle
+  slave-step =
+      let w = loop-wraps (crosses wave) starts in
+      rw (w .phase, w .falls) (phase-step (h .valid .slave .at) (h .slave .at) (h .valid .slave .under) (h .slave .most))
 
   free-law : (phaseOutput : Bool) → Law false s steps (plainSample false phaseOutput s steps (s .«master_phase»))
-  unfolding plainSample finish edgeOf
+  unfolding plainSample finish
   free-law phaseOutput =
-      let c = all-crossed start (edge-crossing h .edge) in
+      let c = crossed-of (crosses wave) starts in
       record {
         account = accounts (h .valid .slave .at) (h .slave .at) slave-step;
         valid = after-valid _ _ _ _ (h .valid .master) (c .phase);
-        cycles = c .falls;
-        rises = c .rises;
-        falls = c .falls;
+        cycles = c .counted .falls;
+        rises = c .counted .rises;
+        falls = c .counted .falls;
         cuts = omega arith;
-        balance = omega (arith, c .balance);
+        balance = omega (arith, c .counted .balance);
       }
 
   sum : Sum (s .«master_phase» ⊕ steps .«master_frequency») (h .valid .master .n) (h .master .n) (21233664 * tick) tick
@@ -114,30 +111,24 @@ module _ (s : State) (steps : Steps) (h : Ready s steps) where
 
   module _ (phaseOutput : Bool) where
     plain-law : le one32 (s .«master_phase» ⊕ steps .«master_frequency») ≡ false → Law true s steps (plainSample true phaseOutput s steps (s .«master_phase» ⊕ steps .«master_frequency»))
-    unfolding plainSample finish edgeOf
+    unfolding plainSample finish
     plain-law l =
-        let c = all-crossed start (edge-crossing h .edge) in
+        let c = crossed-of (crosses wave) starts in
         let m = turn-stays turn-1 sum (failed-le one-at (sum .at) l) in
         record {
           account = accounts (h .valid .master .at) (h .master .at) m;
           valid = after-valid _ _ _ _ (stays-under m) (c .phase);
           cycles = omega arith;
-          rises = c .rises;
-          falls = c .falls;
+          rises = c .counted .rises;
+          falls = c .counted .falls;
           cuts = omega arith;
-          balance = omega (arith, c .balance);
+          balance = omega (arith, c .counted .balance);
         }
 
   -- ---- with a reset
-  reset-counts : (time : Float) → (let r = resetEdge s wave time in
-      (r .rises ≤ 2) × (r .falls ≤ 1) × (r .rises + oneIf (s .high) ≡ r .falls + oneIf (r .high)))
-  unfolding resetEdge edgeOf waveformOf
-  reset-counts time =
-      let reached = slaveAtReset (s .«slave_phase») (steps .«slave_frequency») time in
-      let value = naiveOf wave (wrapOnce reached) in
-      let e = cutEdge value time start in
-      let k = cut-crossable value time start e refl (edge-crossing h .edge) in
-      maybe-crossed (crossed wave e) (resetEdge s wave time) e (transitionDuringReset (s .high) (steps .pw) reached) k (all-crossed e k) refl
+  reset-counts : (time : Float) → Counted (s .high) (resetEdge s wave time)
+  unfolding waveformOf
+  reset-counts time = reset-counted (crosses wave) (naiveOf wave) (s .«slave_phase») (steps .«slave_frequency») time start starts
 
   module _ (phaseOutput : Bool) where
     reset-law : le one32 (s .«master_phase» ⊕ steps .«master_frequency») ≡ true → Law true s steps (resetSample phaseOutput s steps (s .«master_phase» ⊕ steps .«master_frequency» ⊖ one32))
@@ -152,10 +143,10 @@ module _ (s : State) (steps : Steps) (h : Ready s steps) where
           account = accounts (h .valid .master .at) (h .master .at) m;
           valid = after-valid _ _ _ _ (stays-under m) (record { n = slave .n; at = slave .at; under = omega (arith, slave .most, h .slave .most, tick-pos) });
           cycles = omega arith;
-          rises = c .0;
-          falls = c .1;
+          rises = c .rises;
+          falls = c .falls;
           cuts = one-most (resetEdge s wave (masterPhase ⊘ steps .«master_frequency») .high);
-          balance = omega (arith, c .2);
+          balance = omega (arith, c .balance);
         }
 
     synced-law : (t : Bool) → le one32 (s .«master_phase» ⊕ steps .«master_frequency») ≡ t

@@ -3,18 +3,15 @@
 use mathlib.Core.Path.{_≡_}
 use mathlib.Core.Bool.{Bool, true, cond}
 use Prim.Native.Nat.{_*_}
-use lib.Ieee.{Float}
 use Rattle.floats.proofs.Ticks.{tick, cycle}
 use Rattle.floats.proofs.Ranges.{Under, Positive}
 use Rattle.parameter_interpolator.specs.declared.ParameterInterpolator.{ParameterInterpolator}
 use Rattle.parameter_interpolator.specs.Interpolator.{nextInterpolator}
 use Rattle.block.specs.declared.Answer.{Answer}
-use Rattle.edges.specs.declared.Edge.{Edge}
 use Rattle.rooms.specs.declared.Room.{Room}
 use Rattle.rooms.specs.declared.Room.the-variants.{Unused, Sixteen}
 use Rattle.block.specs.Counting.{noCounts}
 use Rattle.ranges.specs.Ranges.{waveshapeIn, sixteenIn}
-use Rattle.edges.proofs.Crossings.{Crossable}
 use Rattle.variable_shape.specs.declared.State.{State}
 use Rattle.variable_shape.specs.declared.Rendered.{Rendered}
 use Rattle.variable_shape.specs.declared.steps.Interpolators.{Interpolators}
@@ -35,11 +32,6 @@ pub record Ready (s : State) (steps : Steps) : Type 0 where
   pub width : Under (steps .pw) cycle
   pub waveshape : waveshapeIn (steps .waveshape) ≡ true
   pub modulation : sixteenIn (steps .«phase_modulation») ≡ true
-
--- what the crossing loop starts from
-pub record Crossing (e : Edge) (pw : Float) : Type 0 where
-  pub edge : Crossable e
-  pub width : Under pw cycle
 
 -- a valid state, and phase modulation's interpolator starts from it
 pub record Started (p : Interpolators) (s : State) : Type 0 where

@@ -1,7 +1,7 @@
 -- One sample of the variable shape: variable_shape_oscillator.rs, lines 95 to 210, in its order. Assumes nothing.
 use mathlib.Core.Bool.{Bool, true, false, _&&_, cond}
 use mathlib.Core.List.{List}
-use Prim.Native.Nat.{ℕ, _+_}
+use Prim.Native.Nat.{ℕ}
 use lib.ListN.{getD}
 use lib.Ieee.{Float, le}
 use Rattle.floats.specs.F32.{_⊕_, _⊖_, _⊗_, _⊘_, zero32, half32, one32, two32, four32}
@@ -10,8 +10,9 @@ use Rattle.polyblep.specs.Polyblep.{thisBlepSample, nextBlepSample, thisIntegra
 use Rattle.edges.specs.declared.Edge.{Edge}
 use Rattle.edges.specs.Triangle.{triangleStep, riseTime}
 use Rattle.block.specs.Counting.{oneIf}
-use Rattle.edges.specs.Crossings.{crossings}
-use Rattle.edges.specs.Sync.{resetTime, slaveAtReset, wrapOnce, transitionDuringReset, cutEdge}
+use Rattle.edges.specs.Counted.{startOf, rose, fell, countsOf}
+use Rattle.edges.specs.CrossingLoop.{crossingLoop}
+use Rattle.edges.specs.Sync.{resetTime, resetOf}
 use Rattle.block.specs.Play.{Sample}
 use Rattle.variable_shape.specs.declared.State.{State}
 use Rattle.variable_shape.specs.declared.steps.Steps.{Steps}
@@ -29,8 +30,7 @@ riseOf w e =
       high = true;
       «this_sample» = e .«this_sample» ⊕ w .«square_amount» ⊗ thisBlepSample t ⊖ step ⊗ thisIntegratedBlepSample t;
       «next_sample» = e .«next_sample» ⊕ w .«square_amount» ⊗ nextBlepSample t ⊖ step ⊗ nextIntegratedBlepSample t;
-      rises = e .rises + 1;
-      falls = e .falls;
+      crossings = rose (e .crossings);
     }
 
 -- down through 1, where the phase wraps, lines 164 to 173
@@ -44,31 +44,20 @@ fallOf w e =
       high = false;
       «this_sample» = e .«this_sample» ⊖ (one32 ⊖ w .«triangle_amount») ⊗ thisBlepSample t ⊕ step ⊗ thisIntegratedBlepSample t;
       «next_sample» = e .«next_sample» ⊖ (one32 ⊖ w .«triangle_amount») ⊗ nextBlepSample t ⊕ step ⊗ nextIntegratedBlepSample t;
-      rises = e .rises;
-      falls = e .falls + 1;
+      crossings = fell (e .crossings);
     }
 
 -- the loop around the two crossings, lines 144 to 175
 abbrev pub crossed : Waveform → Edge → Edge
-crossed w e = crossings (w .pw) (riseOf w) (fallOf w) e
+crossed w e = crossingLoop (w .pw) (riseOf w) (fallOf w) e
 
 -- the slave's step, lines 100, 101 and 141: this sample starts with what the last one left for it
-unfoldable pub edgeOf : State → Float → Edge
-edgeOf s slaveFrequency = record {
-  phase = s .«slave_phase» ⊕ slaveFrequency;
-  high = s .high;
-  «this_sample» = s .«next_sample»;
-  «next_sample» = zero32;
-  rises = 0;
-  falls = 0;
-}
+abbrev pub edgeOf : State → Float → Edge
+edgeOf s slaveFrequency = startOf (s .«slave_phase» ⊕ slaveFrequency) (s .high) (s .«next_sample»)
 
 -- the edge of a sample whose master wrapped `time` samples ago, lines 118 to 176: crossed only where a transition falls before the reset
-unfoldable pub resetEdge : State → Waveform → Float → Edge
-resetEdge s w time =
-    let reached = slaveAtReset (s .«slave_phase») (w .«slave_frequency») time in
-    let e = cutEdge (naiveOf w (wrapOnce reached)) time (edgeOf s (w .«slave_frequency»)) in
-    cond (transitionDuringReset (s .high) (w .pw) reached) (crossed w e) e
+abbrev pub resetEdge : State → Waveform → Float → Edge
+resetEdge s w time = resetOf (w .pw) (naiveOf w) (crossed w) (s .«slave_phase») (w .«slave_frequency») time (edgeOf s (w .«slave_frequency»))
 
 -- The state after a sample, lines 183 to 191. What the next one starts with gets the waveform and is stored after the last sample (line 210).
 -- The source stores the parameters as it drops their interpolators, and what it stores is the last step.
@@ -110,7 +99,7 @@ unfoldable pub finish : Bool → Bool → Edge → State → ℕ → ℕ → Sam
 finish sync phaseOutput e s cycles cuts = record {
   state = s;
   sample = outputOf sync phaseOutput (s .«master_phase») (s .pw) (s .«phase_modulation») (e .«this_sample»);
-  counts = record { cycles = cycles; rises = e .rises; falls = e .falls; cuts = cuts };
+  counts = countsOf cycles (e .crossings) cuts;
 }
 
 -- with a reset, lines 114 to 138 and 178 to 181. 01 counts a cut where it finds `high` true just before clearing it.
@@ -130,7 +119,7 @@ unfoldable pub plainSample : Bool → Bool → State → Steps → Float → Sam
 plainSample sync phaseOutput s steps masterPhase =
     let w = waveformOf steps (s .«previous_pw») in
     let e = crossed w (edgeOf s (steps .«slave_frequency»)) in
-    finish sync phaseOutput e (after w e masterPhase (e .phase) (e .high) steps) (freeCycles sync (e .falls)) 0
+    finish sync phaseOutput e (after w e masterPhase (e .phase) (e .high) steps) (freeCycles sync (e .crossings .falls)) 0
 
 -- lines 112 and 113: the master's phase moves only with sync
 abbrev pub masterStep : Bool → Float → Float → Float

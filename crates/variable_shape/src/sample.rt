@@ -1,8 +1,8 @@
-// One sample of the variable shape, in the source's order.
+// One sample of the variable shape, in the source's order: variable_shape_oscillator.rs, lines 95 to 210.
 ghost use mathlib.Core.Path.{_≡_};
-ghost use Prim.Native.Nat.{_<_};
+ghost use Rattle.edges.specs.CrossingLoop.{Crossable};
 ghost use Rattle.variable_shape.specs.Sample.{riseOf, fallOf, crossed, edgeOf, resetEdge, masterStep, after as stateAfter, finish as finished, freeCycles, resetSample, plainSample, sampleOf};
-ghost use Rattle.variable_shape.specs.Private.{Crossing, Ready};
+ghost use Rattle.variable_shape.specs.Private.{Ready};
 use crate::State;
 use crate::output;
 use crate::steps::Steps;
@@ -18,9 +18,9 @@ pub struct Sampled {
     pub counts: Counts,
 }
 
-// Up through the pulse width.
+// Up through the pulse width, lines 149 to 157. t is an infinity or a NaN where the width has moved up by just the frequency, as in the source. The
+// phase may have passed 1 too: the fall comes after.
 fn rise(e: Edge, w: Waveform) -> Edge
-    requires { ⌜ e .rises < 2 ⌝ }
     ensures { λ r. ⌜ r ≡ riseOf w e ⌝ }
 {
     let t = triangle::rise_time(e.phase, w.pw, w.previous_pw, w.slave_frequency);
@@ -30,6 +30,7 @@ fn rise(e: Edge, w: Waveform) -> Edge
         w.slave_frequency,
         w.triangle_amount,
     );
+    let crossings = e.crossings;
     Edge {
         phase: e.phase,
         high: true,
@@ -37,14 +38,12 @@ fn rise(e: Edge, w: Waveform) -> Edge
             - step * polyblep::this_integrated_blep_sample(t),
         next_sample: e.next_sample + w.square_amount * polyblep::next_blep_sample(t)
             - step * polyblep::next_integrated_blep_sample(t),
-        rises: e.rises + 1,
-        falls: e.falls,
+        crossings: edges::rose(crossings),
     }
 }
 
-// Down through 1, where the phase wraps.
+// Down through 1, where the phase wraps, lines 164 to 173: t is taken from the wrapped phase, and does not know of the width.
 fn fall(e: Edge, w: Waveform) -> Edge
-    requires { ⌜ e .falls < 1 ⌝ }
     ensures { λ r. ⌜ r ≡ fallOf w e ⌝ }
 {
     let phase = e.phase - 1.0;
@@ -55,6 +54,7 @@ fn fall(e: Edge, w: Waveform) -> Edge
         w.slave_frequency,
         w.triangle_amount,
     );
+    let crossings = e.crossings;
     Edge {
         phase,
         high: false,
@@ -62,14 +62,14 @@ fn fall(e: Edge, w: Waveform) -> Edge
             + step * polyblep::this_integrated_blep_sample(t),
         next_sample: e.next_sample - (1.0 - w.triangle_amount) * polyblep::next_blep_sample(t)
             + step * polyblep::next_integrated_blep_sample(t),
-        rises: e.rises,
-        falls: e.falls + 1,
+        crossings: edges::fell(crossings),
     }
 }
 
-// The source's loop around the two crossings.
+// The source's loop around the two crossings, lines 144 to 175. It ends because a step is less than a cycle: a low slave may rise, fall and rise
+// again (P10), and no more.
 fn cross(edge: Edge, w: Waveform) -> Edge
-    requires { ⌜ Crossing edge (w .pw) ⌝ }
+    requires { ⌜ Crossable (w .pw) edge ⌝ }
     ensures { λ r. ⌜ r ≡ crossed w edge ⌝ }
 {
     let mut e = edge;
@@ -88,36 +88,30 @@ fn cross(edge: Edge, w: Waveform) -> Edge
     e
 }
 
-// The slave's step.
+// The slave's step, lines 100, 101 and 141, which comes after the reset in the source. A reset reads the phase as it was before.
 fn edge(s: State, slave_frequency: f32) -> Edge
     ensures { λ r. ⌜ r ≡ edgeOf s «slave_frequency» ⌝ }
 {
-    Edge {
-        phase: s.slave_phase + slave_frequency,
-        high: s.high,
-        this_sample: s.next_sample,
-        next_sample: 0.0,
-        rises: 0,
-        falls: 0,
-    }
+    edges::start(s.slave_phase + slave_frequency, s.high, s.next_sample)
 }
 
-// The edge of a sample whose master wrapped `time` samples ago.
+// The edge of a sample whose master wrapped `time` samples ago, lines 118 to 176. Where no transition falls before the reset, the slave's step crosses
+// nothing: the reset puts its phase back.
 fn reset_edge(s: State, w: Waveform, time: f32) -> Edge
-    requires { ⌜ Crossing (edgeOf s (w .«slave_frequency»)) (w .pw) ⌝ }
+    requires { ⌜ Crossable (w .pw) (edgeOf s (w .«slave_frequency»)) ⌝ }
     ensures { λ r. ⌜ r ≡ resetEdge s w time ⌝ }
 {
-    let reached = edges::slave_at_reset(s.slave_phase, w.slave_frequency, time);
-    let value = waveform::naive(w, edges::wrap_once(reached));
-    let e = edges::cut(edge(s, w.slave_frequency), value, time);
-    if edges::transition_during_reset(s.high, w.pw, reached) {
-        cross(e, w)
-    } else {
-        e
-    }
+    let found = edges::at_reset(s.slave_phase, s.high, w.slave_frequency, w.pw, time);
+    let e = edges::cut(
+        edge(s, w.slave_frequency),
+        waveform::naive(w, found.slave_phase),
+        time,
+    );
+    if found.transition { cross(e, w) } else { e }
 }
 
-// The state after a sample, with what the next one starts with.
+// The state after a sample, with what the next one starts with: the source adds the waveform to it last, line 183. Without phase output the step
+// of phase modulation is the state's own.
 fn after(
     w: Waveform,
     e: Edge,
@@ -142,10 +136,11 @@ fn after(
     }
 }
 
-// The end of a sample: `s` is the state after it.
+// The end of a sample: `s` is the state after it, and the phase and width that it puts out are those of `s`.
 fn finish(sync: bool, phase_output: bool, e: Edge, s: State, cycles: u32, cuts: u32) -> Sampled
     ensures { λ r. ⌜ r ≡ finished sync «phase_output» e s cycles cuts ⌝ }
 {
+    let crossings = e.crossings;
     Sampled {
         state: s,
         sample: output::output(
@@ -156,18 +151,13 @@ fn finish(sync: bool, phase_output: bool, e: Edge, s: State, cycles: u32, cuts: 
             s.phase_modulation,
             e.this_sample,
         ),
-        counts: Counts {
-            cycles,
-            rises: e.rises,
-            falls: e.falls,
-            cuts,
-        },
+        counts: edges::counts(cycles, crossings, cuts),
     }
 }
 
-// With a reset.
+// With a reset, lines 114 to 138 and 178 to 181: the slave starts anew, low, from where it is `time` after the reset. A high one is cut.
 fn reset_sample(s: State, steps: Steps, phase_output: bool, master_phase: f32) -> Sampled
-    requires { ⌜ Crossing (edgeOf s (steps .«slave_frequency»)) (steps .pw) ⌝ }
+    requires { ⌜ Crossable (steps .pw) (edgeOf s (steps .«slave_frequency»)) ⌝ }
     ensures { λ r. ⌜ r ≡ resetSample «phase_output» s steps «master_phase» ⌝ }
 {
     let w = waveform::at(steps, s.previous_pw);
@@ -178,14 +168,14 @@ fn reset_sample(s: State, steps: Steps, phase_output: bool, master_phase: f32) -
     finish(true, phase_output, e, t, 1, block::one_if(e.high))
 }
 
-// The cycles of a sample without a reset. Without sync it is the slave's falls that count.
+// The cycles of a sample without a reset. Without sync it is the slave's wraps that count, and it falls where it wraps.
 fn free_cycles(sync: bool, falls: u32) -> u32
     ensures { λ r. ⌜ r ≡ freeCycles sync falls ⌝ }
 {
     if sync { 0 } else { falls }
 }
 
-// Without one.
+// Without one, lines 141 to 176.
 fn plain_sample(
     s: State,
     steps: Steps,
@@ -193,16 +183,24 @@ fn plain_sample(
     phase_output: bool,
     master_phase: f32,
 ) -> Sampled
-    requires { ⌜ Crossing (edgeOf s (steps .«slave_frequency»)) (steps .pw) ⌝ }
+    requires { ⌜ Crossable (steps .pw) (edgeOf s (steps .«slave_frequency»)) ⌝ }
     ensures { λ r. ⌜ r ≡ plainSample sync «phase_output» s steps «master_phase» ⌝ }
 {
     let w = waveform::at(steps, s.previous_pw);
     let e = cross(edge(s, steps.slave_frequency), w);
+    let crossings = e.crossings;
     let t = after(w, e, master_phase, e.phase, e.high, steps);
-    finish(sync, phase_output, e, t, free_cycles(sync, e.falls), 0)
+    finish(
+        sync,
+        phase_output,
+        e,
+        t,
+        free_cycles(sync, crossings.falls),
+        0,
+    )
 }
 
-// The master's step, which it takes only with sync.
+// The master's step, line 113, which it takes only with sync.
 fn master_step(sync: bool, master_phase: f32, master_frequency: f32) -> f32
     ensures { λ r. ⌜ r ≡ masterStep sync «master_phase» «master_frequency» ⌝ }
 {
@@ -213,6 +211,7 @@ fn master_step(sync: bool, master_phase: f32, master_frequency: f32) -> f32
     }
 }
 
+// Lines 112 to 115: a master's phase of exactly 1 wraps, and so resets. Without sync it may stand there and never does.
 pub(crate) fn sample(s: State, steps: Steps, sync: bool, phase_output: bool) -> Sampled
     requires { ⌜ Ready s steps ⌝ }
     ensures { λ r. ⌜ r ≡ sampleOf sync «phase_output» s steps ⌝ }

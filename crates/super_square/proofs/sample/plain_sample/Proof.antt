@@ -1,13 +1,14 @@
 -- `super_square::sample::plain_sample` meets its contract. Assumes nothing.
 use mathlib.Core.Path.{refl, sym, subst}
-use Rattle.edges.proofs.Crossings.{Crossable}
+use Rattle.floats.specs.F32.{half32}
+use Rattle.edges.specs.CrossingLoop.{Crossable}
 use Rattle.super_square.specs.Sample.{plainSample}
 use borrow.Author.Needs.{needs}
 use Rattle.super_square.proofs.sample.plain_sample.Statement.{statement}
 use Rattle.super_square.proofs.sample.plain_sample.Tie as tie
 
 cross-requires : tie.Need-cross-requires
-cross-requires c κs = subst Crossable (sym (c .edge .ensures)) (c .before .pre)
+cross-requires c κs = subst (Crossable half32) (sym (c .edge .ensures)) (c .before .pre)
 
 returns : tie.Need-returns
 unfolding plainSample

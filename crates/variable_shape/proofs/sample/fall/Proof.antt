@@ -11,7 +11,7 @@ returns c =
     let n = c .before .before .before in
     let t = n .before .before in
     let b = t .before .before in
-    rw (b .before .before .triangle-step .ensures, b .this-blep-sample .ensures, t .this-integrated-blep-sample .ensures, n .next-blep-sample .ensures, c .before .next-integrated-blep-sample .ensures) refl
+    rw (b .before .before .before .triangle-step .ensures, b .this-blep-sample .ensures, t .this-integrated-blep-sample .ensures, n .next-blep-sample .ensures, c .before .next-integrated-blep-sample .ensures, c .fell .ensures) refl
 
 pub fall-spec : {M : Type 1} → statement M
 fall-spec =
@@ -22,5 +22,5 @@ fall-spec =
     (λ c κs. search needs)
     (λ c κs. search needs)
     (λ c κs. search needs)
-    (λ c. search needs)
+    (λ c κs. search needs)
     returns)

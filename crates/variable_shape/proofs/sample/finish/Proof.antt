@@ -1,13 +1,13 @@
 -- `variable_shape::sample::finish` meets its contract. Assumes nothing.
-use Rattle.variable_shape.specs.Sample.{finish}
 use mathlib.Core.Path.{refl}
+use Rattle.variable_shape.specs.Sample.{finish}
 use borrow.Author.Needs.{needs}
 use Rattle.variable_shape.proofs.sample.finish.Statement.{statement}
 use Rattle.variable_shape.proofs.sample.finish.Tie as tie
 
 returns : tie.Need-returns
 unfolding finish
-returns c = rw (c .output .ensures) refl
+returns c = rw (c .before .output .ensures, c .counts .ensures) refl
 
 pub finish-spec : {M : Type 1} → statement M
-finish-spec = tie.close (tie.spec (λ c κs. search needs) returns)
+finish-spec = tie.close (tie.spec (λ c κs. search needs) (λ c κs. search needs) returns)

@@ -1,5 +1,5 @@
 -- `variable_shape::sample::plain_sample` meets its contract. Assumes nothing.
-use Rattle.variable_shape.proofs.Edges.{width-crossing}
+use Rattle.variable_shape.proofs.Edges.{width-crossable}
 use Rattle.variable_shape.specs.Sample.{plainSample}
 use mathlib.Core.Path.{refl}
 use borrow.Author.Needs.{needs}
@@ -7,11 +7,13 @@ use Rattle.variable_shape.proofs.sample.plain_sample.Statement.{stateme
 use Rattle.variable_shape.proofs.sample.plain_sample.Tie as tie
 
 cross-requires : tie.Need-cross-requires
-cross-requires c κs = width-crossing _ _ _ _ _ (c .before .at .ensures) (c .edge .ensures) (c .before .before .pre)
+cross-requires c κs = width-crossable (c .before .before .args .s) _ _ _ _ (c .before .at .ensures) (c .edge .ensures) (c .before .before .pre)
 
 returns : tie.Need-returns
 unfolding plainSample
-returns c = rw (c .finish .ensures, c .before .free-cycles .ensures, c .before .before .after .ensures, c .before .before .before .cross .ensures, c .before .before .before .before .edge .ensures, c .before .before .before .before .before .at .ensures) refl
+returns c =
+    let x = c .before .before .before .before in
+    rw (c .finish .ensures, c .before .free-cycles .ensures, c .before .before .after .ensures, x .cross .ensures, x .before .edge .ensures, x .before .before .at .ensures) refl
 
 pub plain-sample-spec : {M : Type 1} → statement M
 plain-sample-spec =

@@ -1,5 +1,5 @@
 -- `variable_shape::sample::reset_sample` meets its contract. Assumes nothing.
-use Rattle.variable_shape.proofs.Edges.{waveform-crossing}
+use Rattle.variable_shape.proofs.Edges.{waveform-crossable}
 use Rattle.variable_shape.specs.Sample.{resetSample}
 use mathlib.Core.Path.{refl}
 use borrow.Author.Needs.{needs}
@@ -7,7 +7,7 @@ use Rattle.variable_shape.proofs.sample.reset_sample.Statement.{stateme
 use Rattle.variable_shape.proofs.sample.reset_sample.Tie as tie
 
 reset-edge-requires : tie.Need-reset-edge-requires
-reset-edge-requires c κs = waveform-crossing _ _ _ _ (c .before .at .ensures) (c .before .before .pre)
+reset-edge-requires c κs = waveform-crossable (c .before .before .args .s) _ _ _ (c .before .at .ensures) (c .before .before .pre)
 
 returns : tie.Need-returns
 unfolding resetSample

@@ -11,8 +11,8 @@ returns c =
     let n = c .before .before .before .before in
     let t = n .before in
     let b = t .before .before .before in
-    let s = b .before in
-    rw (s .triangle-step .ensures, b .this-blep-sample .ensures, t .this-integrated-blep-sample .ensures, n .next-blep-sample .ensures, c .before .next-integrated-blep-sample .ensures, s .before .rise-time .ensures) refl
+    let s = b .before .before in
+    rw (s .triangle-step .ensures, b .this-blep-sample .ensures, t .this-integrated-blep-sample .ensures, n .next-blep-sample .ensures, c .before .next-integrated-blep-sample .ensures, c .rose .ensures, s .before .rise-time .ensures) refl
 
 pub rise-spec : {M : Type 1} → statement M
 rise-spec =
@@ -24,5 +24,5 @@ rise-spec =
     (λ c κs. search needs)
     (λ c κs. search needs)
     (λ c κs. search needs)
-    (λ c. search needs)
+    (λ c κs. search needs)
     returns)

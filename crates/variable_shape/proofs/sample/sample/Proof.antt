@@ -1,14 +1,14 @@
 -- `variable_shape::sample::sample` meets its contract: with the reset or without, as the definition tests. Assumes nothing.
-use Rattle.variable_shape.proofs.Edges.{edge-crossing, sample-is}
+use Rattle.variable_shape.proofs.Edges.{edge-crossable, sample-is}
 use borrow.Author.Needs.{needs}
 use Rattle.variable_shape.proofs.sample.sample.Statement.{statement}
 use Rattle.variable_shape.proofs.sample.sample.Tie as tie
 
 reset-sample-requires : tie.Need-reset-sample-requires
-reset-sample-requires c κs = edge-crossing (c .before .before .pre)
+reset-sample-requires c κs = edge-crossable (c .before .before .pre)
 
 plain-sample-requires : tie.Need-plain-sample-requires
-plain-sample-requires c κs = edge-crossing (c .before .before .pre)
+plain-sample-requires c κs = edge-crossable (c .before .before .pre)
 
 returns : tie.Need-returns
 returns c = sample-is _ _ _ _ _ _ (c .before .before .master-step .ensures) (rw (c .before .if1 .taken) (c .reset-sample .ensures))
