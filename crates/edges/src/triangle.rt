@@ -2,7 +2,7 @@
 ghost use mathlib.Core.Path.{_≡_};
 ghost use Rattle.edges.specs.Triangle.{triangle as triangleOf, triangleStep, riseTime};
 
-// Up to the width, and down again to 1.
+// Up to 1 at the width, and down again to 0 at the end of the cycle. The width itself is on the way down.
 pub fn triangle(phase: f32, pw: f32, slope_up: f32, slope_down: f32) -> f32
     ensures { λ r. ⌜ r ≡ triangleOf phase pw «slope_up» «slope_down» ⌝ }
 {
@@ -13,14 +13,16 @@ pub fn triangle(phase: f32, pw: f32, slope_up: f32, slope_down: f32) -> f32
     }
 }
 
-// How much the triangle's slope changes at an edge, over one sample.
+// How much the triangle's slope changes at an edge, over one sample: both slopes count, as one goes up and the other down. Grouped as the source's
+// `triangle_step`, from the left.
 pub fn triangle_step(slope_up: f32, slope_down: f32, frequency: f32, amount: f32) -> f32
     ensures { λ r. ⌜ r ≡ triangleStep «slope_up» «slope_down» frequency amount ⌝ }
 {
     (slope_up + slope_down) * frequency * amount
 }
 
-// How many samples ago the phase came to the width, which moves too.
+// How many samples ago the phase came to the width, which moves too. Where it has moved up by just the frequency the divisor is 0, and this is an
+// infinity or a NaN, as in the source.
 pub fn rise_time(phase: f32, pw: f32, previous_pw: f32, frequency: f32) -> f32
     ensures { λ r. ⌜ r ≡ riseTime phase pw «previous_pw» frequency ⌝ }
 {

@@ -1,9 +1,11 @@
-// The waveform at one sample: how much of it is square and how much triangle, and the triangle's slopes.
+// The waveform at one sample: how much of it is square and how much triangle, and the triangle's slopes. variable_shape_oscillator.rs, lines 107 to 110
+// and 214 to 234.
 ghost use mathlib.Core.Path.{_≡_};
 ghost use Rattle.variable_shape.specs.Waveform.{waveformOf, squareOf, naiveOf};
 use crate::steps::Steps;
 use edges::triangle;
 
+// What the crossings of the sample need of its steps, and the width of the sample before.
 pub struct Waveform {
     pub slave_frequency: f32,
     pub previous_pw: f32,
@@ -14,6 +16,7 @@ pub struct Waveform {
     pub slope_down: f32,
 }
 
+// Lines 107 to 110. Of square and triangle at most one is above 0: square from a waveshape of 0.5 up, triangle below it, and the rest is saw.
 pub(crate) fn at(steps: Steps, previous_pw: f32) -> Waveform
     ensures { λ r. ⌜ r ≡ waveformOf steps «previous_pw» ⌝ }
 {
@@ -28,13 +31,14 @@ pub(crate) fn at(steps: Steps, previous_pw: f32) -> Waveform
     }
 }
 
+// Line 224. The width itself is high.
 fn square(phase: f32, pw: f32) -> f32
     ensures { λ r. ⌜ r ≡ squareOf phase pw ⌝ }
 {
     if phase < pw { 0.0 } else { 1.0 }
 }
 
-// The source's compute_naive_sample: the waveform with its edges as they are.
+// The source's compute_naive_sample: the waveform without its smoothing. From the saw some way to the square, and from there some way to the triangle.
 pub(crate) fn naive(w: Waveform, phase: f32) -> f32
     ensures { λ r. ⌜ r ≡ naiveOf w phase ⌝ }
 {

@@ -3,8 +3,5 @@ use borrow.Author.Needs.{needs}
 use Rattle.edges.proofs.fell.Statement.{statement}
 use Rattle.edges.proofs.fell.Tie as tie
 
-returns : tie.Need-returns
-returns c = rw (c .wrapping-add-u32 .ensures)
-
 pub fell-spec : {M : Type 1} → statement M
-fell-spec = tie.close (tie.spec (λ c κs. search needs) returns)
+fell-spec = tie.close (tie.spec (λ c κs. search needs) (λ c. rw (c .wrapping-add-u32 .ensures)))

@@ -2,11 +2,5 @@
 use Rattle.edges.proofs.triangle.triangle.Statement.{statement}
 use Rattle.edges.proofs.triangle.triangle.Tie as tie
 
-returns : tie.Need-returns
-returns c = rw (c .if1 .taken)
-
-returns-2 : tie.Need-returns-2
-returns-2 c = rw (c .if1 .left)
-
 pub triangle-spec : {M : Type 1} → statement M
-triangle-spec = tie.close (tie.spec returns returns-2)
+triangle-spec = tie.close (tie.spec (λ c. rw (c .if1 .taken)) (λ c. rw (c .if1 .left)))

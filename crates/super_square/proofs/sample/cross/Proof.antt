@@ -32,13 +32,4 @@ returns-2 c = let b = c .before .before in ends-high (b .before .before .crossin
 pub cross-spec : {M : Type 1} → statement M
 cross-spec =
     tie.close
-    (tie.spec
-    Inv-crossing
-    μ-crossing
-    (λ c. going-start (c .pre))
-    (λ c κs. search needs)
-    (λ c κs. search needs)
-    crossing-less
-    crossing-again
-    returns
-    returns-2)
+    (tie.spec Inv-crossing μ-crossing (λ c. going-start (c .pre)) (λ c κs. search needs) (λ c κs. search needs) crossing-less crossing-again returns returns-2)

@@ -3,8 +3,5 @@ use borrow.Author.Needs.{needs}
 use Rattle.variable_shape.proofs.output.phasor.Statement.{statement}
 use Rattle.variable_shape.proofs.output.phasor.Tie as tie
 
-returns : tie.Need-returns
-returns c = rw (c .abs .ensures)
-
 pub phasor-spec : {M : Type 1} → statement M
-phasor-spec = tie.close (tie.spec (λ c κs. search needs) returns)
+phasor-spec = tie.close (tie.spec (λ c κs. search needs) (λ c. rw (c .abs .ensures)))

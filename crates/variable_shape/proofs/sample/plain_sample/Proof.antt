@@ -18,11 +18,4 @@ returns c =
 pub plain-sample-spec : {M : Type 1} → statement M
 plain-sample-spec =
     tie.close
-    (tie.spec
-    (λ c κs. search needs)
-    (λ c κs. search needs)
-    cross-requires
-    (λ c κs. search needs)
-    (λ c κs. search needs)
-    (λ c κs. search needs)
-    returns)
+    (tie.spec (λ c κs. search needs) (λ c κs. search needs) cross-requires (λ c κs. search needs) (λ c κs. search needs) (λ c κs. search needs) returns)

@@ -16,10 +16,4 @@ returns c = rw (c .finish .ensures, c .before .one-if .ensures, c .before .befor
 pub reset-sample-spec : {M : Type 1} → statement M
 reset-sample-spec =
     tie.close
-    (tie.spec
-    (λ c κs. search needs)
-    reset-edge-requires
-    (λ c κs. search needs)
-    (λ c κs. search needs)
-    (λ c κs. search needs)
-    returns)
+    (tie.spec (λ c κs. search needs) reset-edge-requires (λ c κs. search needs) (λ c κs. search needs) (λ c κs. search needs) returns)
