@@ -3,8 +3,6 @@ pub mod Registrations
 pub mod Octaves
 pub mod Segments
 pub mod Keeping
-pub mod Places
-pub mod Loop
 pub mod Calls
 pub mod Phase
 pub mod Tight

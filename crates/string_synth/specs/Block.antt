@@ -61,17 +61,14 @@ pub record Arguments : Type 0 where
   pub buffer : List Float
 
 -- lines 80 to 100: the frequency and the four gains move to their targets
-abbrev pub movingTo : State → Saws → ℕ → List ParameterInterpolator
-movingTo s to n =
+abbrev pub interpolators : State → Saws → ℕ → List ParameterInterpolator
+interpolators s to n =
     newInterpolator (s .frequency) (to .frequency) n
     ∷ newInterpolator (s .«saw_8_gain») (to .«saw_8_gain») n
     ∷ newInterpolator (s .«saw_4_gain») (to .«saw_4_gain») n
     ∷ newInterpolator (s .«saw_2_gain») (to .«saw_2_gain») n
     ∷ newInterpolator (s .«saw_1_gain») (to .«saw_1_gain») n
     ∷ []
-
-abbrev pub interpolators : State → Arguments → List ParameterInterpolator
-interpolators s a = movingTo s (targetsOf (a .frequency) (a .registration) (a .gain)) (length (a .buffer))
 
 -- 01, "Rooms for each interpolated step": the frequency above 0 and at most 17/32, the four gains -16 to 16
 abbrev pub rooms : List Room
@@ -87,7 +84,7 @@ stringSynth = record {
       ∷ 4 unless parametersIn (a .frequency) (a .registration) (a .gain)
       ∷ 5 unless not (lt half32 (a .frequency))
       ∷ [];
-  moving = interpolators;
+  moving = λ s a. interpolators s (targetsOf (a .frequency) (a .registration) (a .gain)) (length (a .buffer));
   rooms = λ a. rooms;
   sample = λ a. sampleAt;
   phases = λ s. s .phase ∷ [];

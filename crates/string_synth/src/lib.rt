@@ -1,21 +1,21 @@
 // A mixture of saws and squares in the style of divide-down organs: the source's oscillator/string_synth_oscillator.rs.
 ghost use mathlib.Core.Path.{_≡_};
 ghost use mathlib.Core.Bool.{_&&_};
-ghost use Rattle.rooms.specs.Steps.{stepsOf, firstOutside};
+ghost use Rattle.rooms.proofs.Padding.{used};
 ghost use Rattle.block.specs.Calls.{run};
 ghost use Rattle.block.specs.Fit.{Fit, Playable, playedOf};
 ghost use Rattle.string_synth.specs.State.{newState, initState};
 ghost use Rattle.string_synth.specs.Sample.{sampleAt};
-ghost use Rattle.string_synth.specs.Block.{stringPhaseIn, segmentIn, gainsIn, stateIn, registrationIn, parametersIn, rooms, renderOf, left};
+ghost use Rattle.string_synth.specs.Block.{stringPhaseIn, segmentIn, gainsIn, stateIn, registrationIn, parametersIn, interpolators as interpolatorsTo, rooms, renderOf, left};
 ghost use Rattle.string_synth.specs.Private.{Valid, refused};
 use block::Answer;
 use block::Counts;
 use parameter_interpolator::ParameterInterpolator;
 use rooms::Found;
 use rooms::Room;
+use sample::Saws;
 
 mod sample;
-mod steps;
 mod targets;
 
 // The source's fields, in its order.
@@ -97,7 +97,7 @@ pub fn render(
     }
     let n = out.len() as u32;
     let to = targets::targets(frequency, registration, gain);
-    drift_or_play(state, steps::start(state, to, n), out)
+    drift_or_play(state, interpolators(state, to, n), out)
 }
 
 fn state_in(s: State) -> bool
@@ -151,9 +151,23 @@ fn refuse(answer: Answer, state: State) -> Rendered
     }
 }
 
-// The first sample with a step outside its room.
-fn walk(interpolators: [ParameterInterpolator; 5], n: u32) -> Found
-    ensures { λ r. ⌜ r ≡ firstOutside rooms (stepsOf n interpolators) ⌝ }
+// The frequency and the four gains on their way to the targets, over n samples: every place is used.
+fn interpolators(s: State, to: Saws, n: u32) -> [ParameterInterpolator; 5]
+    ensures { λ r. ⌜ r ≡ interpolatorsTo s to n ⌝ }
+{
+    [
+        ParameterInterpolator::new(s.frequency, to.frequency, n),
+        ParameterInterpolator::new(s.saw_8_gain, to.saw_8_gain, n),
+        ParameterInterpolator::new(s.saw_4_gain, to.saw_4_gain, n),
+        ParameterInterpolator::new(s.saw_2_gain, to.saw_2_gain, n),
+        ParameterInterpolator::new(s.saw_1_gain, to.saw_1_gain, n),
+    ]
+}
+
+// Drift where a step leaves its room, else the samples.
+fn drift_or_play(state: State, p: [ParameterInterpolator; 5], out: &mut [f32]) -> Rendered
+    requires { ⌜ Fit Valid state (now out) ⌝ }
+    ensures { λ r. ⌜ left r (now (out .exit)) ≡ run sampleAt rooms (used rooms p) state (now (out .entry)) ⌝ }
 {
     let kept = [
         Room::StringFrequency,
@@ -162,37 +176,31 @@ fn walk(interpolators: [ParameterInterpolator; 5], n: u32) -> Found
         Room::Sixteen,
         Room::Sixteen,
     ];
-    rooms::first_outside(interpolators, kept, n)
-}
-
-// Drift where a step leaves its room, else the samples.
-fn drift_or_play(
-    state: State,
-    interpolators: [ParameterInterpolator; 5],
-    out: &mut [f32],
-) -> Rendered
-    requires { ⌜ Fit Valid state (now out) ⌝ }
-    ensures { λ r. ⌜ left r (now (out .exit)) ≡ run sampleAt rooms interpolators state (now (out .entry)) ⌝ }
-{
-    match walk(interpolators, out.len() as u32) {
+    match rooms::first_outside(p, kept, out.len() as u32) {
         Found::Outside(i) => refuse(Answer::Drift(i), state),
-        Found::Nowhere => play(state, interpolators, out),
+        Found::Nowhere => play(state, p, out),
     }
 }
 
 // Every sample of the buffer.
-fn play(state: State, interpolators: [ParameterInterpolator; 5], out: &mut [f32]) -> Rendered
-    requires { ⌜ Playable Valid rooms state interpolators (now out) ⌝ }
-    ensures { λ r. ⌜ left r (now (out .exit)) ≡ playedOf sampleAt state interpolators (now (out .entry)) ⌝ }
+fn play(state: State, p: [ParameterInterpolator; 5], out: &mut [f32]) -> Rendered
+    requires { ⌜ Playable Valid rooms state (used rooms p) (now out) ⌝ }
+    ensures { λ r. ⌜ left r (now (out .exit)) ≡ playedOf sampleAt state (used rooms p) (now (out .entry)) ⌝ }
 {
     let mut s = state;
-    let mut moving = interpolators;
+    let mut moving = p;
     let mut counts = block::none();
     let mut i = 0;
     while i < out.len() {
-        let next = steps::advance(moving);
-        moving = next;
-        let t = sample::sample(s, steps::values(next), out[i]);
+        moving = rooms::advance(moving);
+        let saws = Saws {
+            frequency: moving[0].value,
+            saw_8_gain: moving[1].value,
+            saw_4_gain: moving[2].value,
+            saw_2_gain: moving[3].value,
+            saw_1_gain: moving[4].value,
+        };
+        let t = sample::sample(s, saws, out[i]);
         out[i] = t.sample;
         s = t.state;
         counts = block::sum(counts, t.counts);

@@ -1,7 +1,7 @@
 -- `string_synth::drift_or_play` meets its contract: the walk's answer decides, as in the definition. Assumes nothing.
-use mathlib.Core.Path.{_∙_, sym}
+use mathlib.Core.Path.{_∙_}
 use borrow.Author.Needs.{needs}
-use Rattle.block.proofs.Runs.{walk-drift, walk-done}
+use Rattle.block.proofs.Runs.{found-drift, found-playable, found-done}
 use Rattle.string_synth.proofs.drift_or_play.Statement.{statement}
 use Rattle.string_synth.proofs.drift_or_play.Tie as tie
 
@@ -9,18 +9,18 @@ play-requires : tie.Need-play-requires
 play-requires c κs =
     let t = c .before in
     let w = t .before .before in
-    record { fit = w .before .before .pre; inside = sym (w .walk .ensures) ∙ t .enum-told .given .1 }
+    found-playable _ 0 _ _ (w .first-outside .ensures) (t .enum-told .given .1) (w .before .before .pre)
 
 returns : tie.Need-returns
 returns c =
     let t = c .before in
-    rw (c .refuse .ensures) (walk-drift _ _ _ _ _ _ (t .before .before .before .walk .ensures) _ (t .before .i .given .1))
+    rw (c .refuse .ensures) (found-drift _ 0 _ _ (t .before .before .before .first-outside .ensures) _ _ (t .before .i .given .1))
 
 returns-2 : tie.Need-returns-2
 returns-2 c =
     let p = c .before .before in
     let t = p .before .before in
-    p .play .ensures ∙ walk-done _ _ _ _ _ _ (t .before .before .walk .ensures) (t .enum-told .given .1)
+    p .play .ensures ∙ found-done _ 0 _ _ (t .before .before .first-outside .ensures) _ _ (t .enum-told .given .1)
 
 pub drift-or-play-spec : {M : Type 1} → statement M
 drift-or-play-spec =

@@ -1,12 +1,13 @@
 -- `string_synth::render` meets its contract: each way out is the definition's. Assumes nothing.
-use mathlib.Core.Path.{_∙_, sym, ap, subst}
+use mathlib.Core.Path.{refl, _∙_, sym, ap, subst}
 use mathlib.Core.Bool.{not}
+use mathlib.Core.List.{[]}
 use lib.Dec.{T}
 use borrow.Author.Tests.{not-true, not-false, le-leb, lt-leb, eq-eqb, ne-eqb}
 use Rattle.block.specs.Checks.{here, later}
-use Rattle.block.proofs.Ways.{refused-by}
+use Rattle.block.proofs.Ways.{refused-by, run-from}
 use Rattle.string_synth.specs.Block.{stringSynth}
-use Rattle.string_synth.proofs.Calls.{valid-of, rendered}
+use Rattle.string_synth.proofs.Calls.{valid-of}
 use borrow.Author.Needs.{needs}
 use Rattle.string_synth.proofs.render.Statement.{statement}
 use Rattle.string_synth.proofs.render.Tie as tie
@@ -55,8 +56,8 @@ returns-6 c =
     let e = h .before in
     let p = e .before in
     let t = p .before .before in
-    rendered _ _ _ (le-leb _ _ (t .before .before .if1 .left), (eq-eqb _ _ (t .before .if2 .left), (sym (t .state-in .ensures) ∙ not-false _ (p .before .if3 .left), (sym (p .parameters-in .ensures) ∙ not-false _ (e .if4 .left), (ap not (h .if5 .left), tt)))))
-    _ _ (to .targets .ensures) (m .start .ensures) (d .drift-or-play .ensures)
+    run-from stringSynth _ _ refl (le-leb _ _ (t .before .before .if1 .left), (eq-eqb _ _ (t .before .if2 .left), (sym (t .state-in .ensures) ∙ not-false _ (p .before .if3 .left), (sym (p .parameters-in .ensures) ∙ not-false _ (e .if4 .left), (ap not (h .if5 .left), tt)))))
+    [] (rw (m .interpolators .ensures, to .targets .ensures)) (d .drift-or-play .ensures)
 
 pub render-spec : {M : Type 1} → statement M
 render-spec =
