@@ -32,3 +32,7 @@ wrapped c = record {
 -- a bool "taken as 1 or 0"
 abbrev pub oneIf : Bool → ℕ
 oneIf b = cond b 1 0
+
+-- the order in which a call's counts are told, over words and in a line of the renderer
+abbrev pub told : Counts → List ℕ
+told c = c .cycles ∷ c .rises ∷ c .falls ∷ c .cuts ∷ []

@@ -1,4 +1,5 @@
 -- The NES triangle's state as five words, in the order of its fields. Assumes nothing.
+use mathlib.Core.Bool.{cond}
 use mathlib.Core.List.{List, [], _∷_}
 use Prim.Native.Nat.{ℕ}
 use lib.Dec.{eqb}
@@ -9,13 +10,12 @@ use Rattle.block.specs.Counting.{oneIf}
 use Rattle.nes_triangle.specs.declared.State.{State}
 use Rattle.nes_triangle.specs.State.{initState}
 use Rattle.nes_triangle.specs.Block.{renderOf}
-use Rattle.words.specs.Face.{Face, faceOf, bitsOf, phaseBeside, signedOf, unsignedOf}
+use Rattle.words.specs.Face.{Face, faceOf, noBool, noState, bitsOf, signedOf, unsignedOf}
 
--- the state of the words, field by field. A word for `ascending` that is neither 0 nor 1, and one for `step` that is a negative number, are
--- refused as a bad state is: `bad-bool` and `negative-step` in proofs/BadWords.antt
+-- the state of the words, field by field. A word for `step` that is a negative number gives a state outside its range: `negative-step` in proofs/BadWords.antt
 unfoldable pub stateOf : List ℕ → State
 stateOf w = record {
-  phase = phaseBeside (getD w 3 0) (getD w 0 0);
+  phase = f32 (getD w 0 0);
   «next_sample» = f32 (getD w 1 0);
   step = signedOf (getD w 2 0);
   ascending = eqb (getD w 3 0) 1;
@@ -36,6 +36,7 @@ wordsOf s =
 abbrev pub initWords : List ℕ
 initWords = wordsOf initState
 
--- what `render` leaves: the oscillator's own call, on the state of the given words, put into words
+-- what `render` leaves: the oscillator's own call, on the state of the given words, put into words. Where the one for `ascending` is neither 0 nor 1 they are
+-- no state, and refused as a bad one is
 abbrev pub renderFace : List ℕ → Float → ℕ → List Float → Face
-renderFace w frequency numBits xs = faceOf wordsOf w (renderOf (stateOf w) frequency numBits xs)
+renderFace w frequency numBits xs = cond (noBool (getD w 3 0)) (noState w xs) (faceOf wordsOf w (renderOf (stateOf w) frequency numBits xs))

@@ -9,8 +9,7 @@ use Rattle.string_synth.specs.State.{initState}
 use Rattle.string_synth.specs.Block.{renderOf}
 use Rattle.words.specs.Face.{Face, faceOf, bitsOf, signedOf, unsignedOf}
 
--- the state of the words, field by field. A word for `segment` that is a negative number is refused as a bad state is: `negative-segment` in
--- proofs/BadWords.antt
+-- the state of the words, field by field. A word for `segment` that is a negative number gives a state outside its range: `negative-segment` in proofs/BadWords.antt
 unfoldable pub stateOf : List ℕ → State
 stateOf w = record {
   phase = f32 (getD w 0 0);

@@ -4,6 +4,7 @@ ghost use Rattle.words.specs.Face.{wordsAfter};
 ghost use Rattle.string_synth_face.specs.Words.{stateOf, wordsOf, initWords, renderFace};
 use string_synth::State;
 
+// Any words are read: the state may lie outside its range.
 fn state_of(w: [u32; 8]) -> State
     ensures { λ r. ⌜ r ≡ stateOf w ⌝ }
 {
@@ -19,6 +20,7 @@ fn state_of(w: [u32; 8]) -> State
     }
 }
 
+// A NaN, which only `next_sample` can be, becomes the word 7fc00000.
 fn words_of(s: State) -> [u32; 8]
     ensures { λ r. ⌜ r ≡ wordsOf s ⌝ }
 {
@@ -34,7 +36,7 @@ fn words_of(s: State) -> [u32; 8]
     ]
 }
 
-// Stores the words after an answered call of a block that is not empty.
+// Stores the words after an answered call of a block that is not empty, and else leaves them bit by bit, a NaN in them too.
 fn store(words: &mut [u32; 8], number: u32, samples: usize, after: [u32; 8])
     ensures { λ r. ⌜ now (words .exit) ≡ wordsAfter number samples after (now (words .entry)) ⌝ }
 {
@@ -43,12 +45,14 @@ fn store(words: &mut [u32; 8], number: u32, samples: usize, after: [u32; 8])
     }
 }
 
+// Whatever the words were, they are those of the initial state.
 pub fn init(words: &mut [u32; 8])
     ensures { λ r. ⌜ now (words .exit) ≡ initWords ⌝ }
 {
     *words = words_of(string_synth::init());
 }
 
+// No word stands for a bool, so any are a state, in its range or not: the oscillator's own checks say.
 pub fn render(
     words: &mut [u32; 8],
     frequency: f32,

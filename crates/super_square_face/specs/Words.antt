@@ -1,4 +1,5 @@
 -- The super square's state as six words, in the order of its fields. Assumes nothing.
+use mathlib.Core.Bool.{cond}
 use mathlib.Core.List.{List, [], _∷_}
 use Prim.Native.Nat.{ℕ}
 use lib.Dec.{eqb}
@@ -9,12 +10,12 @@ use Rattle.block.specs.Counting.{oneIf}
 use Rattle.super_square.specs.declared.State.{State}
 use Rattle.super_square.specs.State.{initState}
 use Rattle.super_square.specs.Block.{renderOf}
-use Rattle.words.specs.Face.{Face, faceOf, bitsOf, phaseBeside}
+use Rattle.words.specs.Face.{Face, faceOf, noState, noBool, bitsOf}
 
--- the state of the words, field by field. A word for `high` that is neither 0 nor 1 is refused as a bad state is: `bad-bool` in proofs/BadWords.antt
+-- the state of the words, field by field
 unfoldable pub stateOf : List ℕ → State
 stateOf w = record {
-  «master_phase» = phaseBeside (getD w 3 0) (getD w 0 0);
+  «master_phase» = f32 (getD w 0 0);
   «slave_phase» = f32 (getD w 1 0);
   «next_sample» = f32 (getD w 2 0);
   high = eqb (getD w 3 0) 1;
@@ -37,6 +38,7 @@ wordsOf s =
 abbrev pub initWords : List ℕ
 initWords = wordsOf initState
 
--- what `render` leaves: the oscillator's own call, on the state of the given words, put into words
+-- what `render` leaves: the oscillator's own call, on the state of the given words, put into words. Where the one for `high` is neither 0 nor 1 they are
+-- no state, and refused as a bad one is
 abbrev pub renderFace : List ℕ → Float → Float → List Float → Face
-renderFace w frequency shape xs = faceOf wordsOf w (renderOf (stateOf w) frequency shape xs)
+renderFace w frequency shape xs = cond (noBool (getD w 3 0)) (noState w xs) (faceOf wordsOf w (renderOf (stateOf w) frequency shape xs))

@@ -4,11 +4,12 @@ ghost use Rattle.words.specs.Face.{wordsAfter};
 ghost use Rattle.super_square_face.specs.Words.{stateOf, wordsOf, initWords, renderFace};
 use super_square::State;
 
+// Any words are read. Whether the one for `high` stands for a bool is asked before.
 fn state_of(w: [u32; 6]) -> State
     ensures { λ r. ⌜ r ≡ stateOf w ⌝ }
 {
     State {
-        master_phase: words::phase_beside(w[3], w[0]),
+        master_phase: floats::from_bits(w[0]),
         slave_phase: floats::from_bits(w[1]),
         next_sample: floats::from_bits(w[2]),
         high: w[3] == 1,
@@ -17,6 +18,7 @@ fn state_of(w: [u32; 6]) -> State
     }
 }
 
+// A NaN, which only `next_sample` can be, becomes the word 7fc00000.
 fn words_of(s: State) -> [u32; 6]
     ensures { λ r. ⌜ r ≡ wordsOf s ⌝ }
 {
@@ -30,7 +32,7 @@ fn words_of(s: State) -> [u32; 6]
     ]
 }
 
-// Stores the words after an answered call of a block that is not empty.
+// Stores the words after an answered call of a block that is not empty, and else leaves them bit by bit, a NaN in them too.
 fn store(words: &mut [u32; 6], number: u32, samples: usize, after: [u32; 6])
     ensures { λ r. ⌜ now (words .exit) ≡ wordsAfter number samples after (now (words .entry)) ⌝ }
 {
@@ -39,12 +41,14 @@ fn store(words: &mut [u32; 6], number: u32, samples: usize, after: [u32; 6])
     }
 }
 
+// Whatever the words were, they are those of the initial state.
 pub fn init(words: &mut [u32; 6])
     ensures { λ r. ⌜ now (words .exit) ≡ initWords ⌝ }
 {
     *words = words_of(super_square::init());
 }
 
+// Words whose one for `high` stands for no bool are no state: refused as a bad one, and not read.
 pub fn render(
     words: &mut [u32; 6],
     frequency: f32,
@@ -54,6 +58,10 @@ pub fn render(
 )
     ensures { λ r. ⌜ record { words = now (words .exit); result = now (result .exit); samples = now (out .exit) } ≡ renderFace (now (words .entry)) frequency shape (now (out .entry)) ⌝ }
 {
+    if words::no_bool(words[3]) {
+        *result = words::no_state(out.len());
+        return;
+    }
     let r = super_square::render(state_of(*words), frequency, shape, out);
     let answer = r.answer;
     let counts = r.counts;

@@ -1,3 +1,2 @@
--- Words that are refused, and: two outcomes of a call coincide.
-pub mod BadWords
+-- Two outcomes of a call coincide.
 pub mod Tight

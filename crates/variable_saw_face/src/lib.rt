@@ -4,11 +4,12 @@ ghost use Rattle.words.specs.Face.{wordsAfter};
 ghost use Rattle.variable_saw_face.specs.Words.{stateOf, wordsOf, initWords, renderFace};
 use variable_saw::State;
 
+// Any words are read. Whether the one for `high` stands for a bool is asked before.
 fn state_of(w: [u32; 7]) -> State
     ensures { λ r. ⌜ r ≡ stateOf w ⌝ }
 {
     State {
-        phase: words::phase_beside(w[3], w[0]),
+        phase: floats::from_bits(w[0]),
         next_sample: floats::from_bits(w[1]),
         previous_pw: floats::from_bits(w[2]),
         high: w[3] == 1,
@@ -18,6 +19,7 @@ fn state_of(w: [u32; 7]) -> State
     }
 }
 
+// A NaN, which only `next_sample` can be, becomes the word 7fc00000.
 fn words_of(s: State) -> [u32; 7]
     ensures { λ r. ⌜ r ≡ wordsOf s ⌝ }
 {
@@ -32,7 +34,7 @@ fn words_of(s: State) -> [u32; 7]
     ]
 }
 
-// Stores the words after an answered call of a block that is not empty.
+// Stores the words after an answered call of a block that is not empty, and else leaves them bit by bit, a NaN in them too.
 fn store(words: &mut [u32; 7], number: u32, samples: usize, after: [u32; 7])
     ensures { λ r. ⌜ now (words .exit) ≡ wordsAfter number samples after (now (words .entry)) ⌝ }
 {
@@ -41,12 +43,14 @@ fn store(words: &mut [u32; 7], number: u32, samples: usize, after: [u32; 7])
     }
 }
 
+// Whatever the words were, they are those of the initial state.
 pub fn init(words: &mut [u32; 7])
     ensures { λ r. ⌜ now (words .exit) ≡ initWords ⌝ }
 {
     *words = words_of(variable_saw::init());
 }
 
+// Words whose one for `high` stands for no bool are no state: refused as a bad one, and not read.
 pub fn render(
     words: &mut [u32; 7],
     frequency: f32,
@@ -57,6 +61,10 @@ pub fn render(
 )
     ensures { λ r. ⌜ record { words = now (words .exit); result = now (result .exit); samples = now (out .exit) } ≡ renderFace (now (words .entry)) frequency pw waveshape (now (out .entry)) ⌝ }
 {
+    if words::no_bool(words[3]) {
+        *result = words::no_state(out.len());
+        return;
+    }
     let r = variable_saw::render(state_of(*words), frequency, pw, waveshape, out);
     let answer = r.answer;
     let counts = r.counts;

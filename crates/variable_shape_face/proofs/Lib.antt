@@ -1,4 +1,3 @@
--- Words that are refused, and: two outcomes of a call coincide.
+-- Two outcomes of a call coincide.
 mod MasterPhase
-pub mod BadWords
 pub mod Tight

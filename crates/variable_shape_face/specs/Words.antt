@@ -11,12 +11,12 @@ use Rattle.variable_shape.specs.declared.State.{State}
 use Rattle.variable_shape.specs.State.{initState}
 use Rattle.variable_shape.specs.Block.{renderOf}
 use Rattle.variable_shape.specs.MasterPhase.{Setting, masterPhaseSet}
-use Rattle.words.specs.Face.{Face, faceOf, bitsOf, phaseBeside}
+use Rattle.words.specs.Face.{Face, faceOf, noBool, noState, bitsOf}
 
--- the state of the words, field by field. A word for `high` that is neither 0 nor 1 is refused as a bad state is: `bad-bool` in proofs/BadWords.antt
+-- the state of the words, field by field
 unfoldable pub stateOf : List ℕ → State
 stateOf w = record {
-  «master_phase» = phaseBeside (getD w 4 0) (getD w 0 0);
+  «master_phase» = f32 (getD w 0 0);
   «slave_phase» = f32 (getD w 1 0);
   «next_sample» = f32 (getD w 2 0);
   «previous_pw» = f32 (getD w 3 0);
@@ -47,9 +47,10 @@ wordsOf s =
 abbrev pub initWords : List ℕ
 initWords = wordsOf initState
 
--- what `render` leaves: the oscillator's own call, on the state of the given words, put into words
+-- what `render` leaves: the oscillator's own call, on the state of the given words, put into words. Where the one for `high` is neither 0 nor 1 they are
+-- no state, and refused as a bad one is
 abbrev pub renderFace : List ℕ → Float → Float → Float → Float → Float → Bool → Bool → List Float → Face
-renderFace w masterFrequency frequency pw waveshape phaseModulation sync phaseOutput xs = faceOf wordsOf w (renderOf (stateOf w) masterFrequency frequency pw waveshape phaseModulation sync phaseOutput xs)
+renderFace w masterFrequency frequency pw waveshape phaseModulation sync phaseOutput xs = cond (noBool (getD w 4 0)) (noState w xs) (faceOf wordsOf w (renderOf (stateOf w) masterFrequency frequency pw waveshape phaseModulation sync phaseOutput xs))
 
 -- what setting the master's phase leaves: the state's words, and the answer's number
 pub record SetFace : Type 0 where

@@ -7,11 +7,12 @@ ghost use Rattle.words.specs.Face.{wordsAfter};
 ghost use Rattle.variable_shape_face.specs.Words.{stateOf, wordsOf, initWords, renderFace, setFace};
 use variable_shape::State;
 
+// Any words are read. Whether the one for `high` stands for a bool is asked before a block, and does not matter to the master's phase.
 fn state_of(w: [u32; 10]) -> State
     ensures { λ r. ⌜ r ≡ stateOf w ⌝ }
 {
     State {
-        master_phase: words::phase_beside(w[4], w[0]),
+        master_phase: floats::from_bits(w[0]),
         slave_phase: floats::from_bits(w[1]),
         next_sample: floats::from_bits(w[2]),
         previous_pw: floats::from_bits(w[3]),
@@ -24,6 +25,7 @@ fn state_of(w: [u32; 10]) -> State
     }
 }
 
+// A NaN, which only `next_sample` can be, becomes the word 7fc00000.
 fn words_of(s: State) -> [u32; 10]
     ensures { λ r. ⌜ r ≡ wordsOf s ⌝ }
 {
@@ -41,7 +43,7 @@ fn words_of(s: State) -> [u32; 10]
     ]
 }
 
-// Stores the words after an answered call of a block that is not empty.
+// Stores the words after an answered call of a block that is not empty, and else leaves them bit by bit, a NaN in them too.
 fn store(words: &mut [u32; 10], number: u32, samples: usize, after: [u32; 10])
     ensures { λ r. ⌜ now (words .exit) ≡ wordsAfter number samples after (now (words .entry)) ⌝ }
 {
@@ -50,12 +52,14 @@ fn store(words: &mut [u32; 10], number: u32, samples: usize, after: [u32; 10])
     }
 }
 
+// Whatever the words were, they are those of the initial state.
 pub fn init(words: &mut [u32; 10])
     ensures { λ r. ⌜ now (words .exit) ≡ initWords ⌝ }
 {
     *words = words_of(variable_shape::init());
 }
 
+// Words whose one for `high` stands for no bool are no state: refused as a bad one, and not read.
 pub fn render(
     words: &mut [u32; 10],
     master_frequency: f32,
@@ -70,6 +74,10 @@ pub fn render(
 )
     ensures { λ r. ⌜ record { words = now (words .exit); result = now (result .exit); samples = now (out .exit) } ≡ renderFace (now (words .entry)) «master_frequency» frequency pw waveshape «phase_modulation» sync «phase_output» (now (out .entry)) ⌝ }
 {
+    if words::no_bool(words[4]) {
+        *result = words::no_state(out.len());
+        return;
+    }
     let r = variable_shape::render(
         state_of(*words),
         master_frequency,
@@ -100,6 +108,7 @@ pub fn set_master_phase(words: &mut [u32; 10], phase: f32) -> u32
     number
 }
 
+// After a refusal the first word stays too.
 fn store_first(words: &mut [u32; 10], number: u32, first: u32)
     ensures { λ r. ⌜ now (words .exit) ≡ cond (eqb number 0) (set (now (words .entry)) 0 first) (now (words .entry)) ⌝ }
 {

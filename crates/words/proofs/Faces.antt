@@ -1,38 +1,67 @@
 -- A call from another language is the oscillator's own call, put into words. For any oscillator. Assumes nothing.
 use mathlib.Core.Path.{_≡_, refl, ap}
-use mathlib.Core.Bool.{Bool, true, false, cond}
-use mathlib.Core.List.{List, _∷_}
+use mathlib.Core.Bool.{Bool, true, false, _&&_, cond}
+use mathlib.Core.Logic.{⊎-elim, inl, inr}
+use mathlib.Core.List.{List, [], _∷_}
 use Prim.Native.Nat.{ℕ}
 use lib.Dec.{leb, eqb}
 use lib.ListN.{length}
-use lib.Ieee.{Float}
-use Rattle.block.specs.Calls.{Call}
+use borrow.Author.Tests.{eqb-true}
+use Rattle.block.specs.Calls.{Call, refusal}
 use Rattle.block.specs.Checks.{Check, FirstFailing, here, later, _unless_}
-use Rattle.block.specs.Oscillator.{Oscillator, checksOf, callOf}
-use Rattle.block.proofs.Ways.{refused-by}
-use Rattle.words.specs.Face.{Face, resultOf, wordsAfter, faceOf, refusedFace}
+use Rattle.block.specs.Oscillator.{Oscillator, checksOf, callOf, Way, refused, drifted, answered}
+use Rattle.block.proofs.Ways.{not-done, refused-by, goes, way}
+use Rattle.block.proofs.Oscillators.{answered-or-as-given, empty-answered}
+use Rattle.words.specs.Face.{Face, resultOf, wordsAfter, faceOf, refusedFace, AnsweredOrKept, noState}
 
 -- c is what the oscillator's call left, d what its definition says, from the state that was read
-pub face-is : {S : Type 0} (wordsOf : S → List ℕ) (given kept after result : List ℕ) (number n : ℕ) (samples : List Float) (c d : Call S)
-    → c ≡ d → number ≡ c .number → after ≡ wordsOf (c .state) → n ≡ length samples → kept ≡ wordsAfter number n after given → result ≡ resultOf c → samples ≡ c .samples
-    → record { words = kept; result = result; samples = samples } ≡ faceOf wordsOf given d
+pub face-is : {S : Type 0} (wordsOf : S → List ℕ) (given : List ℕ) {c d : Call S} {number : ℕ} {after kept result : List ℕ}
+    → c ≡ d → number ≡ c .number → after ≡ wordsOf (c .state) → kept ≡ wordsAfter number (length (c .samples)) after given → result ≡ resultOf c
+    → record { words = kept; result = result; samples = c .samples } ≡ faceOf wordsOf given d
 unfolding faceOf
-face-is wordsOf given kept after result number n samples c d e at-number at-after at-length at-kept at-result at-samples =
-    rw (at-kept, at-number, at-length, at-after, at-result, at-samples) (ap (faceOf wordsOf given) e)
+face-is wordsOf given e at-number at-after at-kept at-result = rw (at-kept, at-number, at-after, at-result) (ap (faceOf wordsOf given) e)
 
--- a refused call: the words and the samples stay
 module _ {S A : Type 0} (o : Oscillator S A) (wordsOf : S → List ℕ) (w : List ℕ) (s : S) (a : A) where
-  pub refused-face : {k : Check} → FirstFailing (checksOf o s a) k → eqb (k .number) 0 ≡ false → faceOf wordsOf w (callOf o s a) ≡ refusedFace (k .number) w (o .buffer a)
+  -- a call that a check refuses: the words and the samples stay
+  pub refused-face : {k : Check} → FirstFailing (checksOf o s a) k → eqb (k .number) 0 ≡ false → faceOf wordsOf w (callOf o s a) ≡ refusedFace (k .number) 0 w (o .buffer a)
   unfolding faceOf
   refused-face f h = rw (refused-by o s a f, h)
 
-  -- a bad state, where the state's test is the first after that of the length: 3, or 1 where the block is too long
-  pub bad-state-face : (b : Bool) (ks : List Check) → o .checks s a ≡ 3 unless b ∷ ks → b ≡ false → faceOf wordsOf w (callOf o s a) ≡ refusedFace (cond (leb (length (o .buffer a)) 4096) 3 1) w (o .buffer a)
-  bad-state-face b ks same bad = go (leb (length (o .buffer a)) 4096) refl
+  -- a bad state, where the state's test is the first after that of the length
+  pub bad-state-face : {b : Bool} {ks : List Check} → o .checks s a ≡ 3 unless b ∷ ks → b ≡ false → faceOf wordsOf w (callOf o s a) ≡ noState w (o .buffer a)
+  bad-state-face {b} same bad = go (leb (length (o .buffer a)) 4096) refl
     where
-      go : (short : Bool) → leb (length (o .buffer a)) 4096 ≡ short → faceOf wordsOf w (callOf o s a) ≡ refusedFace (cond short 3 1) w (o .buffer a)
+      go : (short : Bool) → leb (length (o .buffer a)) 4096 ≡ short → faceOf wordsOf w (callOf o s a) ≡ refusedFace (cond short 3 1) 0 w (o .buffer a)
       go true h = refused-face {k = 3 unless b} (later h (rw same (here bad))) refl
       go false h = refused-face (here h) refl
+
+  pub answered-or-kept : AnsweredOrKept w (o .buffer a) (faceOf wordsOf w (callOf o s a))
+  unfolding faceOf
+  answered-or-kept = go (eqb (callOf o s a .number) 0) refl
+    where
+      go : (b : Bool) → eqb (callOf o s a .number) 0 ≡ b → AnsweredOrKept w (o .buffer a) (faceOf wordsOf w (callOf o s a))
+      go true h = inl (eqb-true _ _ h)
+      go false h =
+          inr (⊎-elim (not-done _ h) (λ (e : callOf o s a ≡ refusal (callOf o s a .number) (callOf o s a .index) s (o .buffer a)). rw (e, h)) (answered-or-as-given o s a))
+
+  -- an empty block leaves every word as it was, whatever the answer
+  pub empty-face : o .buffer a ≡ [] → faceOf wordsOf w (callOf o s a) .words ≡ w
+  unfolding faceOf
+  empty-face e = rw (none (way o s a)) (never (eqb (callOf o s a .number) 0))
+    where
+      none : {c : Call S} → Way o s a c → callOf o s a .samples ≡ []
+      none (refused f) = rw (goes o s a (refused f)) e
+      none (drifted p h) = rw (goes o s a (drifted p h)) e
+      none (answered p h) = rw (empty-answered o s a e p)
+
+      never : (b : Bool) → cond (b && false) (wordsOf (callOf o s a .state)) w ≡ w
+      never true = refl
+      never false = refl
+
+-- what holds of both ways of a choice: of words that are no state, and of the oscillator's call
+pub either-way : (P : Face → Type 0) (b : Bool) {f g : Face} → P f → P g → P (cond b f g)
+either-way P true p q = p
+either-way P false p q = q
 
 -- what two calls leave, part by part
 pub same-face : {f g : Face} → f ≡ g → (f .words ≡ g .words) × (f .result ≡ g .result) × (f .samples ≡ g .samples)

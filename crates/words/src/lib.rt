@@ -1,6 +1,8 @@
-// What the faces share: the six words of a result, a phase beside a word for a bool, and whole numbers as words.
+// What the faces share: the six words of a result, words that are no state, and whole numbers as words.
 ghost use mathlib.Core.Path.{_≡_};
-ghost use Rattle.words.specs.Face.{resultWords, phaseBeside, signedOf, unsignedOf};
+ghost use mathlib.Core.List.{_∷_};
+ghost use Rattle.block.specs.Counting.{noCounts, told};
+ghost use Rattle.words.specs.Face.{resultWords, noBool, badStateOf, signedOf, unsignedOf};
 
 // The six words of a result.
 pub fn result_of(answer: block::Answer, counts: block::Counts) -> [u32; 6]
@@ -16,14 +18,21 @@ pub fn result_of(answer: block::Answer, counts: block::Counts) -> [u32; 6]
     ]
 }
 
-// The phase of these bits, or one outside every range where the word for a bool is neither 0 nor 1.
-pub fn phase_beside(flag: u32, bits: u32) -> f32
-    ensures { λ r. ⌜ r ≡ phaseBeside flag bits ⌝ }
+// Whether a word, which comes from outside, stands for no bool. Then the words are no state.
+pub fn no_bool(word: u32) -> bool
+    ensures { λ r. ⌜ r ≡ noBool word ⌝ }
 {
-    if flag > 1 {
-        -1.0
+    word > 1
+}
+
+// The result for words that are no state. A block that is too long is refused as such, as it is with any state.
+pub fn no_state(samples: usize) -> [u32; 6]
+    ensures { λ r. ⌜ r ≡ badStateOf samples ∷ 0 ∷ told noCounts ⌝ }
+{
+    if samples <= 4096 {
+        [3, 0, 0, 0, 0, 0]
     } else {
-        floats::from_bits(bits)
+        [1, 0, 0, 0, 0, 0]
     }
 }
 

@@ -1,12 +1,7 @@
 -- `nes_triangle_face::init` meets its contract: the words of the oscillator's own initial state. Assumes nothing.
-use mathlib.Core.Path.{_∙_, ap}
 use borrow.Author.Needs.{needs}
-use Rattle.nes_triangle_face.specs.Words.{wordsOf}
 use Rattle.nes_triangle_face.proofs.init.Statement.{statement}
 use Rattle.nes_triangle_face.proofs.init.Tie as tie
 
-returns : tie.Need-returns
-returns c = c .words-of .ensures ∙ ap wordsOf (c .before .init .ensures)
-
 pub init-spec : {M : Type 1} → statement M
-init-spec = tie.close (tie.spec (λ c κs. search needs) (λ c κs. search needs) returns)
+init-spec = tie.close (tie.spec (λ c κs. search needs) (λ c κs. search needs) (λ c. cc))

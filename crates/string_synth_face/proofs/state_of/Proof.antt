@@ -1,25 +1,12 @@
 -- `string_synth_face::state_of` meets its contract: field by field. Assumes nothing.
-use lib.ListN.{getD}
-use Rattle.string_synth_face.specs.Words.{stateOf}
-use Rattle.words.proofs.Words.{signed-kept}
 use borrow.Author.Needs.{needs}
+use Rattle.words.proofs.Words.{signed-kept}
+use Rattle.string_synth_face.specs.Words.{stateOf}
 use Rattle.string_synth_face.proofs.state_of.Statement.{statement}
 use Rattle.string_synth_face.proofs.state_of.Tie as tie
 
-returns : tie.Need-returns
-unfolding stateOf
-returns c =
-    let b1 = c .before in
-    let b2 = b1 .before in
-    let b3 = b2 .before in
-    let b4 = b3 .before in
-    let b5 = b4 .before in
-    let b6 = b5 .before in
-    let b7 = b6 .before in
-    let b8 = b7 .before in
-    rw (b7 .from-bits .ensures, b6 .from-bits2 .ensures, b4 .from-bits3 .ensures, b3 .from-bits4 .ensures, b2 .from-bits5 .ensures, b1 .from-bits6 .ensures, c .from-bits7 .ensures, signed-kept (getD (b8 .args .t1) 2 0) _ (b5 .signed .ensures))
-
 pub state-of-spec : {M : Type 1} → statement M
+unfolding stateOf
 state-of-spec =
     tie.close
     (tie.spec
@@ -39,4 +26,4 @@ state-of-spec =
     (λ c κs. search needs)
     (λ c. search needs)
     (λ c κs. search needs)
-    returns)
+    (λ c. cc (signed-kept _ _ (c .before .before .before .before .before .signed .ensures))))

@@ -1,20 +1,11 @@
 -- `super_square_face::words_of` meets its contract: field by field. Assumes nothing.
-use Rattle.super_square_face.specs.Words.{wordsOf}
 use borrow.Author.Needs.{needs}
+use Rattle.super_square_face.specs.Words.{wordsOf}
 use Rattle.super_square_face.proofs.words_of.Statement.{statement}
 use Rattle.super_square_face.proofs.words_of.Tie as tie
 
-returns : tie.Need-returns
-unfolding wordsOf
-returns c =
-    let b1 = c .before in
-    let b2 = b1 .before in
-    let b3 = b2 .before in
-    let b4 = b3 .before in
-    let b5 = b4 .before in
-    rw (b5 .to-bits .ensures, b4 .to-bits2 .ensures, b3 .to-bits3 .ensures, b2 .one-if .ensures, b1 .to-bits4 .ensures, c .to-bits5 .ensures)
-
 pub words-of-spec : {M : Type 1} → statement M
+unfolding wordsOf
 words-of-spec =
     tie.close
     (tie.spec
@@ -24,4 +15,4 @@ words-of-spec =
     (λ c κs. search needs)
     (λ c κs. search needs)
     (λ c κs. search needs)
-    returns)
+    (λ c. cc))

@@ -1,28 +1,32 @@
 -- `variable_saw_face::render` meets its contract: the variable saw's own call, put into words. Assumes nothing.
-use mathlib.Core.Path.{_∙_, refl, ap}
-use Rattle.variable_saw.specs.declared.State.{State}
-use Rattle.variable_saw.specs.Block.{renderOf, left}
-use Rattle.words.proofs.Faces.{face-is}
+use mathlib.Core.Path.{_∙_, sym}
 use borrow.Author.Needs.{needs}
+use Rattle.floats.proofs.Choices.{chosen, other}
+use Rattle.words.proofs.Faces.{face-is}
 use Rattle.variable_saw_face.proofs.render.Statement.{statement}
 use Rattle.variable_saw_face.proofs.render.Tie as tie
 
 returns : tie.Need-returns
-returns c =
-    let w = c .before in
-    let n = w .before in
+returns c = rw (c .no-state .ensures) (chosen _ _ _ (sym (c .before .before .no-bool .ensures) ∙ c .before .if1 .taken))
+
+returns-2 : tie.Need-returns-2
+returns-2 c =
+    let n = c .before .before in
     let q = n .before .before in
     let r = q .before .before .before .before .before in
     let s = r .before .before in
-    let a = s .before .before .before .args in
-    face-is _ _ _ _ _ _ _ _ (left (r .render .result) (r .render .last .1 .1 .1 .1 .0)) _
-    (r .render .ensures ∙ ap (λ (t : State). renderOf t (a .frequency) (a .pw) (a .waveshape) (a .out .now)) (s .state-of .ensures))
-    (n .number .ensures) (w .words-of .ensures) refl (c .store .ensures) (q .result-of .ensures) refl
+    let i = s .before .before in
+    face-is _ _ (rw (s .state-of .ensures) at (r .render .ensures)) (n .number .ensures) (c .before .words-of .ensures) (c .store .ensures) (q .result-of .ensures)
+    ∙ other _ _ _ (sym (i .before .no-bool .ensures) ∙ i .if1 .left)
 
 pub render-spec : {M : Type 1} → statement M
 render-spec =
     tie.close
     (tie.spec
+    (λ c. search needs)
+    (λ c κs. search needs)
+    (λ c κs. search needs)
+    returns
     (λ c κs. search needs)
     (λ c κs. search needs)
     (λ c κs. search needs)
@@ -30,4 +34,4 @@ render-spec =
     (λ c κs. search needs)
     (λ c κs. search needs)
     (λ c. search needs)
-    returns)
+    returns-2)

@@ -1,25 +1,15 @@
 -- `variable_saw_face::state_of` meets its contract: field by field. Assumes nothing.
-use Rattle.variable_saw_face.specs.Words.{stateOf}
 use borrow.Author.Needs.{needs}
+use Rattle.variable_saw_face.specs.Words.{stateOf}
 use Rattle.variable_saw_face.proofs.state_of.Statement.{statement}
 use Rattle.variable_saw_face.proofs.state_of.Tie as tie
 
-returns : tie.Need-returns
-unfolding stateOf
-returns c =
-    let b1 = c .before in
-    let b2 = b1 .before in
-    let b3 = b2 .before in
-    let b4 = b3 .before in
-    let b5 = b4 .before in
-    rw (b5 .phase-beside .ensures, b4 .from-bits .ensures, b3 .from-bits2 .ensures, b2 .from-bits3 .ensures, b1 .from-bits4 .ensures, c .from-bits5 .ensures)
-
 pub state-of-spec : {M : Type 1} → statement M
+unfolding stateOf
 state-of-spec =
     tie.close
     (tie.spec
     (λ c. search needs)
-    (λ c. search needs)
     (λ c κs. search needs)
     (λ c. search needs)
     (λ c κs. search needs)
@@ -32,4 +22,4 @@ state-of-spec =
     (λ c κs. search needs)
     (λ c. search needs)
     (λ c κs. search needs)
-    returns)
+    (λ c. cc))

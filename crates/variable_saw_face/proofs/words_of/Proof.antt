@@ -1,21 +1,11 @@
 -- `variable_saw_face::words_of` meets its contract: field by field. Assumes nothing.
-use Rattle.variable_saw_face.specs.Words.{wordsOf}
 use borrow.Author.Needs.{needs}
+use Rattle.variable_saw_face.specs.Words.{wordsOf}
 use Rattle.variable_saw_face.proofs.words_of.Statement.{statement}
 use Rattle.variable_saw_face.proofs.words_of.Tie as tie
 
-returns : tie.Need-returns
-unfolding wordsOf
-returns c =
-    let b1 = c .before in
-    let b2 = b1 .before in
-    let b3 = b2 .before in
-    let b4 = b3 .before in
-    let b5 = b4 .before in
-    let b6 = b5 .before in
-    rw (b6 .to-bits .ensures, b5 .to-bits2 .ensures, b4 .to-bits3 .ensures, b3 .one-if .ensures, b2 .to-bits4 .ensures, b1 .to-bits5 .ensures, c .to-bits6 .ensures)
-
 pub words-of-spec : {M : Type 1} → statement M
+unfolding wordsOf
 words-of-spec =
     tie.close
     (tie.spec
@@ -26,4 +16,4 @@ words-of-spec =
     (λ c κs. search needs)
     (λ c κs. search needs)
     (λ c κs. search needs)
-    returns)
+    (λ c. cc))

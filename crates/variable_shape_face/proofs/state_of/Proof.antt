@@ -1,6 +1,6 @@
 -- `variable_shape_face::state_of` meets its contract: field by field. Assumes nothing.
-use Rattle.variable_shape_face.specs.Words.{stateOf}
 use borrow.Author.Needs.{needs}
+use Rattle.variable_shape_face.specs.Words.{stateOf}
 use Rattle.variable_shape_face.proofs.state_of.Statement.{statement}
 use Rattle.variable_shape_face.proofs.state_of.Tie as tie
 
@@ -15,13 +15,12 @@ returns c =
     let b6 = b5 .before in
     let b7 = b6 .before in
     let b8 = b7 .before in
-    rw (b8 .phase-beside .ensures, b7 .from-bits .ensures, b6 .from-bits2 .ensures, b5 .from-bits3 .ensures, b4 .from-bits4 .ensures, b3 .from-bits5 .ensures, b2 .from-bits6 .ensures, b1 .from-bits7 .ensures, c .from-bits8 .ensures)
+    rw (b8 .from-bits .ensures, b7 .from-bits2 .ensures, b6 .from-bits3 .ensures, b5 .from-bits4 .ensures, b4 .from-bits5 .ensures, b3 .from-bits6 .ensures, b2 .from-bits7 .ensures, b1 .from-bits8 .ensures, c .from-bits9 .ensures)
 
 pub state-of-spec : {M : Type 1} → statement M
 state-of-spec =
     tie.close
     (tie.spec
-    (λ c. search needs)
     (λ c. search needs)
     (λ c κs. search needs)
     (λ c. search needs)
