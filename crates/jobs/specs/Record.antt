@@ -24,11 +24,11 @@ shapeOf p =
     playIf (leb flags 3) (VariableShape (floatAt p 8) (floatAt p 12) (floatAt p 16) (floatAt p 20) (floatAt p 24) (eqb (flags % 2) 1) (leb 2 flags))
 
 -- frequency, pulse width, waveshape
-unfoldable pub sawOf : List ℕ → Asked
+abbrev pub sawOf : List ℕ → Asked
 sawOf p = Play (VariableSaw (floatAt p 8) (floatAt p 16) (floatAt p 20))
 
 -- frequency, shape
-unfoldable pub superSquareOf : List ℕ → Asked
+abbrev pub superSquareOf : List ℕ → Asked
 superSquareOf p = Play (SuperSquare (floatAt p 8) (floatAt p 16))
 
 -- "NES step count: exactly one bit set, 2 to 65,536; bits are its trailing zeros"
@@ -40,7 +40,7 @@ unfoldable pub nesOf : List ℕ → Asked
 nesOf p = let steps = wordAt p 4 in playIf (stepCountIn steps) (NesTriangle (floatAt p 8) (trailingZeros 32 steps))
 
 -- frequency, gain
-unfoldable pub stringOf : List ℕ → Asked
+abbrev pub stringOf : List ℕ → Asked
 stringOf p = Play (StringSynth (floatAt p 8) (floatAt p 12))
 
 -- "kind: 1 shape, 2 saw, 3 super square, 4 NES, 5 string; 0 and 6 to 255 are BadRecord"

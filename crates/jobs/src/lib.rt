@@ -65,7 +65,7 @@ pub fn record(list: &[u8], k: usize) -> &[u8]
     &list[a..e]
 }
 
-// What the bytes of a record say.
+// What the bytes of a record say. Block length and registration are read from a malformed one too, where no one asks for them.
 pub fn read(part: &[u8]) -> Job
     ensures { λ r. ⌜ r ≡ jobOf (now (part .entry)) ⌝ }
 {
@@ -76,6 +76,7 @@ pub fn read(part: &[u8]) -> Job
     }
 }
 
+// A part that is no whole record is malformed whatever it holds; so is one with an unused byte that is not zero.
 fn asks(part: &[u8]) -> Asked
     ensures { λ r. ⌜ r ≡ askedOf (now (part .entry)) ⌝ }
 {
@@ -90,6 +91,7 @@ fn asks(part: &[u8]) -> Asked
     }
 }
 
+// The kinds of the table; all other numbers are malformed.
 fn by_kind(kind: u8, part: &[u8]) -> Asked
     ensures { λ r. ⌜ r ≡ byKindOf kind (now (part .entry)) ⌝ }
 {
@@ -103,6 +105,7 @@ fn by_kind(kind: u8, part: &[u8]) -> Asked
     }
 }
 
+// Kind 1, the only one with flags: 1 is sync, 2 phase output, and above 3 a bit is set that has no meaning.
 fn shape(part: &[u8]) -> Asked
     ensures { λ r. ⌜ r ≡ shapeOf (now (part .entry)) ⌝ }
 {
@@ -122,6 +125,7 @@ fn shape(part: &[u8]) -> Asked
     }
 }
 
+// Kind 2.
 fn saw(part: &[u8]) -> Asked
     ensures { λ r. ⌜ r ≡ sawOf (now (part .entry)) ⌝ }
 {
@@ -132,6 +136,7 @@ fn saw(part: &[u8]) -> Asked
     })
 }
 
+// Kind 3, whose shape stands where others have their pulse width.
 fn super_square(part: &[u8]) -> Asked
     ensures { λ r. ⌜ r ≡ superSquareOf (now (part .entry)) ⌝ }
 {
@@ -141,6 +146,7 @@ fn super_square(part: &[u8]) -> Asked
     })
 }
 
+// Kind 4: a step count that is a power of two is told as its bits.
 fn nes(part: &[u8]) -> Asked
     ensures { λ r. ⌜ r ≡ nesOf (now (part .entry)) ⌝ }
 {
@@ -162,6 +168,7 @@ fn step_count_in(steps: u32) -> bool
     (u32::count_ones(steps) == 1) & (2 <= steps) & (steps <= 65536)
 }
 
+// Kind 5, whose gain stands where the shape has its master frequency. The registration is read beside it, by `read`.
 fn string(part: &[u8]) -> Asked
     ensures { λ r. ⌜ r ≡ stringOf (now (part .entry)) ⌝ }
 {

@@ -2,6 +2,7 @@
 ghost use mathlib.Core.Path.{_≡_};
 ghost use Rattle.jobs.specs.Fields.{between, usedBy, byteFine, unusedZero};
 
+// Whether every byte that the kind leaves unused is zero. It stops at the first that is not.
 pub(crate) fn zero(kind: u8, part: &[u8]) -> bool
     ensures { λ r. ⌜ r ≡ unusedZero kind (now (part .entry)) ⌝ }
 {
@@ -15,6 +16,7 @@ pub(crate) fn zero(kind: u8, part: &[u8]) -> bool
     true
 }
 
+// One byte: used by the kind, whatever it holds, or zero.
 fn fine(kind: u8, i: usize, byte: u8) -> bool
     ensures { λ r. ⌜ r ≡ byteFine kind i byte ⌝ }
 {
@@ -37,6 +39,7 @@ fn used(kind: u8, i: usize) -> bool
         | (among(28, 55, i) & (kind == 5))
 }
 
+// Byte i is one of those from first to last.
 fn among(first: usize, last: usize, i: usize) -> bool
     ensures { λ r. ⌜ r ≡ between first last i ⌝ }
 {

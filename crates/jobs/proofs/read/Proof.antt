@@ -1,5 +1,4 @@
 -- `jobs::read` meets its contract. Assumes nothing.
-use mathlib.Core.Path.{refl}
 use Rattle.jobs.specs.Record.{jobOf}
 use borrow.Author.Needs.{needs}
 use Rattle.jobs.proofs.read.Statement.{statement}
@@ -7,7 +6,7 @@ use Rattle.jobs.proofs.read.Tie as tie
 
 returns : tie.Need-returns
 unfolding jobOf
-returns c = rw (c .before .before .asks .ensures, c .before .short-at .ensures, c .registration .ensures) refl
+returns c = cc
 
 pub read-spec : {M : Type 1} → statement M
 read-spec = tie.close (tie.spec (λ c κs. search needs) (λ c κs. search needs) (λ c κs. search needs) returns)

@@ -1,5 +1,4 @@
 -- `jobs::words::float_at` meets its contract. Assumes nothing.
-use mathlib.Core.Path.{refl}
 use Rattle.jobs.specs.Words.{floatAt}
 use borrow.Author.Needs.{needs}
 use Rattle.jobs.proofs.words.float_at.Statement.{statement}
@@ -7,7 +6,7 @@ use Rattle.jobs.proofs.words.float_at.Tie as tie
 
 returns : tie.Need-returns
 unfolding floatAt
-returns c = rw (c .from-bits .ensures, c .before .word-at .ensures) refl
+returns c = cc
 
 pub float-at-spec : {M : Type 1} → statement M
 float-at-spec = tie.close (tie.spec (λ c κs. search needs) (λ c κs. search needs) returns)
