@@ -1,4 +1,5 @@
 -- The laws of records.
+pub mod EachKind
 pub mod LongBlocks
 pub mod Refused
 pub mod Lending

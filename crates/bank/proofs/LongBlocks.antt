@@ -10,23 +10,16 @@ use lib.ListN.{length, take, length-replicate}
 use lib.Ieee.{Float}
 use Rattle.floats.specs.F32.{zero32}
 use Rattle.jobs.specs.declared.Settings.{Settings}
-use Rattle.jobs.specs.declared.Settings.the-variants.{VariableShape, VariableSaw, SuperSquare, NesTriangle, StringSynth}
 use Rattle.block.proofs.Oscillators.{long-refused}
-use Rattle.variable_shape.specs.Block as Shape
-use Rattle.variable_saw.specs.Block as Saw
-use Rattle.super_square.specs.Block as Square
-use Rattle.nes_triangle.specs.Block as Nes
-use Rattle.string_synth.specs.Block as Strings
 use Rattle.bank.specs.declared.Bank.{Bank}
-use Rattle.bank.specs.Bank.{shapePlayed, sawPlayed, superSquarePlayed, nesPlayed, stringPlayed, settingsPlayed, silence}
+use Rattle.bank.specs.Bank.{Made, played, settingsPlayed, silence}
 use Rattle.bank.specs.Private.{lentOf}
+use Rattle.bank.proofs.EachKind.{by-settings}
 
-long-same : (b : Bank) (registration xs ys : List Float) → 4096 < length xs → 4096 < length ys → (s : Settings) → settingsPlayed b s registration xs ≡ settingsPlayed b s registration ys
-long-same b registration xs ys p q (VariableShape f m w v d sync out) = ap (shapePlayed b) (long-refused (Shape.variableShape sync) (b .shape) _ p) ∙ sym (ap (shapePlayed b) (long-refused (Shape.variableShape sync) (b .shape) _ q))
-long-same b registration xs ys p q (VariableSaw f w v) = ap (sawPlayed b) (long-refused Saw.variableSaw (b .saw) _ p) ∙ sym (ap (sawPlayed b) (long-refused Saw.variableSaw (b .saw) _ q))
-long-same b registration xs ys p q (SuperSquare f h) = ap (superSquarePlayed b) (long-refused Square.superSquare (b .«super_square») _ p) ∙ sym (ap (superSquarePlayed b) (long-refused Square.superSquare (b .«super_square») _ q))
-long-same b registration xs ys p q (NesTriangle f n) = ap (nesPlayed b) (long-refused Nes.nesTriangle (b .nes) _ p) ∙ sym (ap (nesPlayed b) (long-refused Nes.nesTriangle (b .nes) _ q))
-long-same b registration xs ys p q (StringSynth f g) = ap (stringPlayed b) (long-refused Strings.stringSynth (b .string) _ p) ∙ sym (ap (stringPlayed b) (long-refused Strings.stringSynth (b .string) _ q))
+long-same : (b : Bank) (registration xs ys : List Float) → 4096 < length xs → 4096 < length ys → (t : Settings) → settingsPlayed b t registration xs ≡ settingsPlayed b t registration ys
+long-same b registration xs ys p q =
+    by-settings b registration (λ (f : List Float → Made). f xs ≡ f ys)
+    (λ S A o s put lent same long. ap (played put) (long-refused o s (lent xs) (rw (long xs) p)) ∙ sym (ap (played put) (long-refused o s (lent ys) (rw (long ys) q))))
 
 take-silence : (n m : ℕ) → n ≤ m → take n (silence m) ≡ silence n
 take-silence zero m h = refl

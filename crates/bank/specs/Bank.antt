@@ -73,30 +73,18 @@ withNes b s = record { shape = b .shape; saw = b .saw; «super_square» = b .«s
 abbrev pub withString : Bank → StringState → Bank
 withString b s = record { shape = b .shape; saw = b .saw; «super_square» = b .«super_square»; nes = b .nes; string = s }
 
--- a call of each kind: that kind's state is what the call left, the others are as they were
-abbrev pub shapePlayed : Bank → Call ShapeState → Made
-shapePlayed b c = record { bank = withShape b (c .state); outcome = outcomeOf c; samples = heard c }
-
-abbrev pub sawPlayed : Bank → Call SawState → Made
-sawPlayed b c = record { bank = withSaw b (c .state); outcome = outcomeOf c; samples = heard c }
-
-abbrev pub superSquarePlayed : Bank → Call SquareState → Made
-superSquarePlayed b c = record { bank = withSuperSquare b (c .state); outcome = outcomeOf c; samples = heard c }
-
-abbrev pub nesPlayed : Bank → Call NesState → Made
-nesPlayed b c = record { bank = withNes b (c .state); outcome = outcomeOf c; samples = heard c }
-
-abbrev pub stringPlayed : Bank → Call StringState → Made
-stringPlayed b c = record { bank = withString b (c .state); outcome = outcomeOf c; samples = heard c }
+-- what a call makes of the bank: the state that it left goes where `put` has the place of its kind, and the others are as they were
+abbrev pub played : {S : Type 0} → (S → Bank) → Call S → Made
+played put c = record { bank = put (c .state); outcome = outcomeOf c; samples = heard c }
 
 -- the call that the settings ask for, with the registration that stands beside them, on a buffer
 abbrev pub settingsPlayed : Bank → Settings → List Float → List Float → Made
 settingsPlayed b (VariableShape frequency masterFrequency pw waveshape phaseModulation sync phaseOutput) registration xs =
-    shapePlayed b (Shape.renderOf (b .shape) masterFrequency frequency pw waveshape phaseModulation sync phaseOutput xs)
-settingsPlayed b (VariableSaw frequency pw waveshape) registration xs = sawPlayed b (Saw.renderOf (b .saw) frequency pw waveshape xs)
-settingsPlayed b (SuperSquare frequency shape) registration xs = superSquarePlayed b (Square.renderOf (b .«super_square») frequency shape xs)
-settingsPlayed b (NesTriangle frequency bits) registration xs = nesPlayed b (Nes.renderOf (b .nes) frequency bits xs)
-settingsPlayed b (StringSynth frequency gain) registration xs = stringPlayed b (Strings.renderOf (b .string) frequency registration gain xs)
+    played (withShape b) (Shape.renderOf (b .shape) masterFrequency frequency pw waveshape phaseModulation sync phaseOutput xs)
+settingsPlayed b (VariableSaw frequency pw waveshape) registration xs = played (withSaw b) (Saw.renderOf (b .saw) frequency pw waveshape xs)
+settingsPlayed b (SuperSquare frequency shape) registration xs = played (withSuperSquare b) (Square.renderOf (b .«super_square») frequency shape xs)
+settingsPlayed b (NesTriangle frequency bits) registration xs = played (withNes b) (Nes.renderOf (b .nes) frequency bits xs)
+settingsPlayed b (StringSynth frequency gain) registration xs = played (withString b) (Strings.renderOf (b .string) frequency registration gain xs)
 
 -- "the string's buffer is zeroed for each record"; the other kinds overwrite what they find
 abbrev pub silence : ℕ → List Float

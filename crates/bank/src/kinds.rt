@@ -5,7 +5,7 @@ ghost use Rattle.variable_saw.specs.Block.{renderOf as sawCall};
 ghost use Rattle.super_square.specs.Block.{renderOf as superSquareCall};
 ghost use Rattle.nes_triangle.specs.Block.{renderOf as nesCall};
 ghost use Rattle.string_synth.specs.Block.{renderOf as stringCall};
-ghost use Rattle.bank.specs.Bank.{toldOf, shapePlayed, sawPlayed, superSquarePlayed, nesPlayed, stringPlayed};
+ghost use Rattle.bank.specs.Bank.{toldOf, withShape, withSaw, withSuperSquare, withNes, withString, played};
 ghost use Rattle.bank.specs.Private.{madeOf};
 use crate::Bank;
 use crate::Outcome;
@@ -34,7 +34,7 @@ pub(crate) fn shape(
     phase_output: bool,
     out: &mut [f32],
 ) -> Played
-    ensures { λ r. ⌜ madeOf r (now (out .exit)) ≡ shapePlayed bank (shapeCall (bank .shape) «master_frequency» frequency pw waveshape «phase_modulation» sync «phase_output» (now (out .entry))) ⌝ }
+    ensures { λ r. ⌜ madeOf r (now (out .exit)) ≡ played (withShape bank) (shapeCall (bank .shape) «master_frequency» frequency pw waveshape «phase_modulation» sync «phase_output» (now (out .entry))) ⌝ }
 {
     let state = bank.shape;
     let r = variable_shape::render(
@@ -59,7 +59,7 @@ pub(crate) fn shape(
 }
 
 pub(crate) fn saw(bank: Bank, frequency: f32, pw: f32, waveshape: f32, out: &mut [f32]) -> Played
-    ensures { λ r. ⌜ madeOf r (now (out .exit)) ≡ sawPlayed bank (sawCall (bank .saw) frequency pw waveshape (now (out .entry))) ⌝ }
+    ensures { λ r. ⌜ madeOf r (now (out .exit)) ≡ played (withSaw bank) (sawCall (bank .saw) frequency pw waveshape (now (out .entry))) ⌝ }
 {
     let state = bank.saw;
     let r = variable_saw::render(state, frequency, pw, waveshape, out);
@@ -74,7 +74,7 @@ pub(crate) fn saw(bank: Bank, frequency: f32, pw: f32, waveshape: f32, out: &mut
 }
 
 pub(crate) fn square(bank: Bank, frequency: f32, shape: f32, out: &mut [f32]) -> Played
-    ensures { λ r. ⌜ madeOf r (now (out .exit)) ≡ superSquarePlayed bank (superSquareCall (bank .«super_square») frequency shape (now (out .entry))) ⌝ }
+    ensures { λ r. ⌜ madeOf r (now (out .exit)) ≡ played (withSuperSquare bank) (superSquareCall (bank .«super_square») frequency shape (now (out .entry))) ⌝ }
 {
     let state = bank.super_square;
     let r = super_square::render(state, frequency, shape, out);
@@ -89,7 +89,7 @@ pub(crate) fn square(bank: Bank, frequency: f32, shape: f32, out: &mut [f32]) ->
 }
 
 pub(crate) fn nes(bank: Bank, frequency: f32, num_bits: u32, out: &mut [f32]) -> Played
-    ensures { λ r. ⌜ madeOf r (now (out .exit)) ≡ nesPlayed bank (nesCall (bank .nes) frequency «num_bits» (now (out .entry))) ⌝ }
+    ensures { λ r. ⌜ madeOf r (now (out .exit)) ≡ played (withNes bank) (nesCall (bank .nes) frequency «num_bits» (now (out .entry))) ⌝ }
 {
     let state = bank.nes;
     let r = nes_triangle::render(state, frequency, num_bits, out);
@@ -110,7 +110,7 @@ pub(crate) fn string(
     gain: f32,
     out: &mut [f32],
 ) -> Played
-    ensures { λ r. ⌜ madeOf r (now (out .exit)) ≡ stringPlayed bank (stringCall (bank .string) frequency registration gain (now (out .entry))) ⌝ }
+    ensures { λ r. ⌜ madeOf r (now (out .exit)) ≡ played (withString bank) (stringCall (bank .string) frequency registration gain (now (out .entry))) ⌝ }
 {
     let state = bank.string;
     let r = string_synth::render(state, frequency, &registration, gain, out);

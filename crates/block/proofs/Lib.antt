@@ -7,5 +7,6 @@ pub mod Ways
 pub mod Accounts
 pub mod Blocks
 pub mod Oscillators
+pub mod Lengths
 pub mod Contracts
 pub mod Tight

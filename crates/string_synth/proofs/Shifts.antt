@@ -19,13 +19,10 @@ use Rattle.floats.proofs.PowerOfTwo.{mul-pow}
 use Rattle.ranges.specs.Ranges.{parameterFrequencyIn}
 use Rattle.floats.proofs.Bools.{and-both}
 use Rattle.string_synth.specs.declared.targets.Octave.{Octave}
-use Rattle.string_synth.specs.Targets.{halved, lowered}
+use Rattle.string_synth.specs.Targets.{halved, shiftOf}
 use Rattle.string_synth.proofs.Octaves.{octave, stops}
 
 -- 01: "1/16 shifts 0, the next float up shifts 2, exactly 0.5 shifts 6"; and the next float above 0.5 shifts 8
-abbrev pub shiftOf : Float → ℕ
-shiftOf frequency = lowered (frequency ⊗ eight32) .shift
-
 pub figures : (shiftOf (f32 0x3d80_0000) ≡ 0) × (shiftOf (f32 0x3d80_0001) ≡ 2) × (shiftOf half32 ≡ 6) × (shiftOf (f32 0x3f00_0001) ≡ 8)
 unfolding halved mul lt ofBits
 figures = (refl, refl, refl, refl)

@@ -19,6 +19,10 @@ halved (suc k) o = cond (lt half32 (o .frequency)) (halved k (record { frequency
 abbrev pub lowered : Float → Octave
 lowered frequency = halved 4 (record { frequency = frequency; shift = 0 })
 
+-- how far a frequency shifts the registration. 01: "1/16 shifts 0, the next float up shifts 2, exactly 0.5 shifts 6"
+abbrev pub shiftOf : Float → ℕ
+shiftOf frequency = lowered (frequency ⊗ eight32) .shift
+
 -- lines 75 to 78: 0.0 in the places that the shift leaves empty. A registration that is too short for a place is refused before.
 abbrev pub placedAt : List Float → ℕ → ℕ → Float
 placedAt unshifted shift i = cond (ltb i shift) zero32 (getD unshifted (i - shift) nan)

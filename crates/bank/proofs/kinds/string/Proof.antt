@@ -1,12 +1,15 @@
 -- `bank::kinds::string` meets its contract: the state and the outcome are the call's. Assumes nothing.
 use mathlib.Core.Path.{ap}
-use Rattle.bank.specs.Bank.{stringPlayed}
+use Rattle.bank.specs.Bank.{withString, played}
 use borrow.Author.Needs.{needs}
 use Rattle.bank.proofs.kinds.string.Statement.{statement}
 use Rattle.bank.proofs.kinds.string.Tie as tie
 
 returns : tie.Need-returns
-returns c = let k = c .before .before .before .before in rw (c .told .ensures) (ap (stringPlayed (k .before .before .before .before .before .args .bank)) (k .render .ensures))
+returns c =
+    let k = c .before .before .before .before in
+    let a = k .before .before .before .before .before .args in
+    rw (c .told .ensures) (ap (played (withString (a .bank))) (k .render .ensures))
 
 pub string-spec : {M : Type 1} → statement M
 string-spec =
