@@ -15,12 +15,13 @@ use Rattle.super_square.specs.Block as Square
 use Rattle.nes_triangle.specs.Block as Nes
 use Rattle.string_synth.specs.Block as Strings
 use Rattle.bank.specs.declared.Bank.{Bank}
-use Rattle.bank.specs.Bank.{Made, withShape, withSaw, withSuperSquare, withNes, withString, played, settingsPlayed, askedPlayed, recordPlayed, refusedRecord, silence}
+use Rattle.bank.specs.Bank.{Made, withShape, withSaw, withSuperSquare, withNes, withString, played, shapePlayed, sawPlayed, superSquarePlayed, nesPlayed, stringPlayed, settingsPlayed, askedPlayed, recordPlayed, refusedRecord, silence}
 
 -- what settings make of a buffer, for each kind
 pub by-settings : (b : Bank) (registration : List Float) (P : (List Float → Made) → Type 0)
     → ((S A : Type 0) (o : Oscillator S A) (s : S) (put : S → Bank) (lent : List Float → A) → put s ≡ b → ((xs : List Float) → o .buffer (lent xs) ≡ xs) → P (λ xs. played put (callOf o s (lent xs))))
     → (t : Settings) → P (λ xs. settingsPlayed b t registration xs)
+unfolding shapePlayed sawPlayed superSquarePlayed nesPlayed stringPlayed
 by-settings b registration P call (VariableShape f m w v d sync out) = call _ _ (Shape.variableShape sync) (b .shape) (withShape b) _ refl (λ xs. refl)
 by-settings b registration P call (VariableSaw f w v) = call _ _ Saw.variableSaw (b .saw) (withSaw b) _ refl (λ xs. refl)
 by-settings b registration P call (SuperSquare f h) = call _ _ Square.superSquare (b .«super_square») (withSuperSquare b) _ refl (λ xs. refl)

@@ -1,5 +1,5 @@
 -- What one record makes: of the five states, what its line says, and its samples. Assumes nothing.
-use mathlib.Core.Bool.{cond}
+use mathlib.Core.Bool.{Bool, cond}
 use mathlib.Core.List.{List, []}
 use Prim.Native.Nat.{ℕ}
 use lib.Dec.{eqb}
@@ -77,14 +77,30 @@ withString b s = record { shape = b .shape; saw = b .saw; «super_square» = b .
 abbrev pub played : {S : Type 0} → (S → Bank) → Call S → Made
 played put c = record { bank = put (c .state); outcome = outcomeOf c; samples = heard c }
 
--- the call that the settings ask for, with the registration that stands beside them, on a buffer
-abbrev pub settingsPlayed : Bank → Settings → List Float → List Float → Made
-settingsPlayed b (VariableShape frequency masterFrequency pw waveshape phaseModulation sync phaseOutput) registration xs =
+-- a call of each kind, on a buffer
+unfoldable pub shapePlayed : Bank → Float → Float → Float → Float → Float → Bool → Bool → List Float → Made
+shapePlayed b masterFrequency frequency pw waveshape phaseModulation sync phaseOutput xs =
     played (withShape b) (Shape.renderOf (b .shape) masterFrequency frequency pw waveshape phaseModulation sync phaseOutput xs)
-settingsPlayed b (VariableSaw frequency pw waveshape) registration xs = played (withSaw b) (Saw.renderOf (b .saw) frequency pw waveshape xs)
-settingsPlayed b (SuperSquare frequency shape) registration xs = played (withSuperSquare b) (Square.renderOf (b .«super_square») frequency shape xs)
-settingsPlayed b (NesTriangle frequency bits) registration xs = played (withNes b) (Nes.renderOf (b .nes) frequency bits xs)
-settingsPlayed b (StringSynth frequency gain) registration xs = played (withString b) (Strings.renderOf (b .string) frequency registration gain xs)
+
+unfoldable pub sawPlayed : Bank → Float → Float → Float → List Float → Made
+sawPlayed b frequency pw waveshape xs = played (withSaw b) (Saw.renderOf (b .saw) frequency pw waveshape xs)
+
+unfoldable pub superSquarePlayed : Bank → Float → Float → List Float → Made
+superSquarePlayed b frequency shape xs = played (withSuperSquare b) (Square.renderOf (b .«super_square») frequency shape xs)
+
+unfoldable pub nesPlayed : Bank → Float → ℕ → List Float → Made
+nesPlayed b frequency bits xs = played (withNes b) (Nes.renderOf (b .nes) frequency bits xs)
+
+unfoldable pub stringPlayed : Bank → Float → List Float → Float → List Float → Made
+stringPlayed b frequency registration gain xs = played (withString b) (Strings.renderOf (b .string) frequency registration gain xs)
+
+-- the call that the settings ask for, with the registration that stands beside them
+abbrev pub settingsPlayed : Bank → Settings → List Float → List Float → Made
+settingsPlayed b (VariableShape frequency masterFrequency pw waveshape phaseModulation sync phaseOutput) registration xs = shapePlayed b masterFrequency frequency pw waveshape phaseModulation sync phaseOutput xs
+settingsPlayed b (VariableSaw frequency pw waveshape) registration xs = sawPlayed b frequency pw waveshape xs
+settingsPlayed b (SuperSquare frequency shape) registration xs = superSquarePlayed b frequency shape xs
+settingsPlayed b (NesTriangle frequency bits) registration xs = nesPlayed b frequency bits xs
+settingsPlayed b (StringSynth frequency gain) registration xs = stringPlayed b frequency registration gain xs
 
 -- "the string's buffer is zeroed for each record"; the other kinds overwrite what they find
 abbrev pub silence : ℕ → List Float

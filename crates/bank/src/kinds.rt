@@ -1,11 +1,6 @@
 // A call of each kind, and what it makes of the bank.
 ghost use mathlib.Core.Path.{_≡_};
-ghost use Rattle.variable_shape.specs.Block.{renderOf as shapeCall};
-ghost use Rattle.variable_saw.specs.Block.{renderOf as sawCall};
-ghost use Rattle.super_square.specs.Block.{renderOf as superSquareCall};
-ghost use Rattle.nes_triangle.specs.Block.{renderOf as nesCall};
-ghost use Rattle.string_synth.specs.Block.{renderOf as stringCall};
-ghost use Rattle.bank.specs.Bank.{toldOf, withShape, withSaw, withSuperSquare, withNes, withString, played};
+ghost use Rattle.bank.specs.Bank.{toldOf, shapePlayed, sawPlayed, superSquarePlayed, nesPlayed, stringPlayed};
 ghost use Rattle.bank.specs.Private.{madeOf};
 use crate::Bank;
 use crate::Outcome;
@@ -13,6 +8,7 @@ use crate::Played;
 use block::Answer;
 use block::Counts;
 
+// What a line says of a call: the answer's number, and the index that Drift alone carries.
 pub(crate) fn told(answer: Answer, counts: Counts) -> Outcome
     ensures { λ r. ⌜ r ≡ toldOf answer counts ⌝ }
 {
@@ -23,6 +19,7 @@ pub(crate) fn told(answer: Answer, counts: Counts) -> Outcome
     }
 }
 
+// The variable shape's call. Its state goes in by value and comes back; the other kinds' states are as they were. So for each kind.
 pub(crate) fn shape(
     bank: Bank,
     master_frequency: f32,
@@ -34,7 +31,7 @@ pub(crate) fn shape(
     phase_output: bool,
     out: &mut [f32],
 ) -> Played
-    ensures { λ r. ⌜ madeOf r (now (out .exit)) ≡ played (withShape bank) (shapeCall (bank .shape) «master_frequency» frequency pw waveshape «phase_modulation» sync «phase_output» (now (out .entry))) ⌝ }
+    ensures { λ r. ⌜ madeOf r (now (out .exit)) ≡ shapePlayed bank «master_frequency» frequency pw waveshape «phase_modulation» sync «phase_output» (now (out .entry)) ⌝ }
 {
     let state = bank.shape;
     let r = variable_shape::render(
@@ -58,8 +55,9 @@ pub(crate) fn shape(
     }
 }
 
+// The variable saw's.
 pub(crate) fn saw(bank: Bank, frequency: f32, pw: f32, waveshape: f32, out: &mut [f32]) -> Played
-    ensures { λ r. ⌜ madeOf r (now (out .exit)) ≡ played (withSaw bank) (sawCall (bank .saw) frequency pw waveshape (now (out .entry))) ⌝ }
+    ensures { λ r. ⌜ madeOf r (now (out .exit)) ≡ sawPlayed bank frequency pw waveshape (now (out .entry)) ⌝ }
 {
     let state = bank.saw;
     let r = variable_saw::render(state, frequency, pw, waveshape, out);
@@ -73,8 +71,9 @@ pub(crate) fn saw(bank: Bank, frequency: f32, pw: f32, waveshape: f32, out: &mut
     }
 }
 
+// The super square's.
 pub(crate) fn square(bank: Bank, frequency: f32, shape: f32, out: &mut [f32]) -> Played
-    ensures { λ r. ⌜ madeOf r (now (out .exit)) ≡ played (withSuperSquare bank) (superSquareCall (bank .«super_square») frequency shape (now (out .entry))) ⌝ }
+    ensures { λ r. ⌜ madeOf r (now (out .exit)) ≡ superSquarePlayed bank frequency shape (now (out .entry)) ⌝ }
 {
     let state = bank.super_square;
     let r = super_square::render(state, frequency, shape, out);
@@ -88,8 +87,9 @@ pub(crate) fn square(bank: Bank, frequency: f32, shape: f32, out: &mut [f32]) ->
     }
 }
 
+// The NES triangle's.
 pub(crate) fn nes(bank: Bank, frequency: f32, num_bits: u32, out: &mut [f32]) -> Played
-    ensures { λ r. ⌜ madeOf r (now (out .exit)) ≡ played (withNes bank) (nesCall (bank .nes) frequency «num_bits» (now (out .entry))) ⌝ }
+    ensures { λ r. ⌜ madeOf r (now (out .exit)) ≡ nesPlayed bank frequency «num_bits» (now (out .entry)) ⌝ }
 {
     let state = bank.nes;
     let r = nes_triangle::render(state, frequency, num_bits, out);
@@ -103,6 +103,7 @@ pub(crate) fn nes(bank: Bank, frequency: f32, num_bits: u32, out: &mut [f32]) ->
     }
 }
 
+// The string's, which adds to what the buffer holds. A registration of seven floats is never refused for its length.
 pub(crate) fn string(
     bank: Bank,
     frequency: f32,
@@ -110,7 +111,7 @@ pub(crate) fn string(
     gain: f32,
     out: &mut [f32],
 ) -> Played
-    ensures { λ r. ⌜ madeOf r (now (out .exit)) ≡ played (withString bank) (stringCall (bank .string) frequency registration gain (now (out .entry))) ⌝ }
+    ensures { λ r. ⌜ madeOf r (now (out .exit)) ≡ stringPlayed bank frequency registration gain (now (out .entry)) ⌝ }
 {
     let state = bank.string;
     let r = string_synth::render(state, frequency, &registration, gain, out);

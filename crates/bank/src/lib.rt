@@ -16,6 +16,7 @@ mod kinds;
 // The answer where the lent buffer is shorter than an answered block.
 pub const NO_ROOM: u32 = 9;
 
+// The states that records play on, one of each kind.
 pub struct Bank {
     pub shape: variable_shape::State,
     pub saw: variable_saw::State,
@@ -31,11 +32,13 @@ pub struct Outcome {
     pub counts: Counts,
 }
 
+// What a record makes of the bank.
 pub struct Played {
     pub bank: Bank,
     pub outcome: Outcome,
 }
 
+// Every kind starts from the source's `init`, and not from its `Default`.
 pub fn start() -> Bank
     ensures { λ r. ⌜ r ≡ initBank ⌝ }
 {
@@ -81,12 +84,14 @@ fn on_silence(
     on_block(bank, settings, registration, &mut buffer[0..e], out)
 }
 
+// As many samples as the record says, but for a block that is too long: one more than a call answers.
 fn lent(n: u16) -> usize
     ensures { λ r. ⌜ r ≡ lentOf n ⌝ }
 {
     if n <= 4097 { n as usize } else { 4097 }
 }
 
+// A call on these samples, and what it leaves in them handed over.
 fn on_block(
     bank: Bank,
     settings: Settings,
@@ -100,6 +105,7 @@ fn on_block(
     hand_over(bank, r, samples, out)
 }
 
+// The call of the settings' kind. The registration stands beside them, and only the string takes it.
 fn by_kind(bank: Bank, settings: Settings, registration: [f32; 7], out: &mut [f32]) -> Played
     ensures { λ r. ⌜ madeOf r (now (out .exit)) ≡ settingsPlayed bank settings registration (now (out .entry)) ⌝ }
 {
@@ -139,7 +145,7 @@ fn by_kind(bank: Bank, settings: Settings, registration: [f32; 7], out: &mut [f3
     }
 }
 
-// The samples of an answered call, where they fit.
+// The samples of an answered call, where they fit. Where they do not, the bank is the one before the call, as if there had been none.
 fn hand_over(before: Bank, r: Played, samples: &[f32], out: &mut [f32]) -> Played
     ensures { λ q. ⌜ left q (now (out .exit)) ≡ handed before (madeOf r (now (samples .entry))) (now (out .entry)) ⌝ }
 {
@@ -153,6 +159,7 @@ fn hand_over(before: Bank, r: Played, samples: &[f32], out: &mut [f32]) -> Playe
     r
 }
 
+// The answer that says so.
 fn no_room(bank: Bank) -> Played
     ensures { λ r. ⌜ r ≡ noRoom bank ⌝ }
 {
@@ -166,6 +173,7 @@ fn no_room(bank: Bank) -> Played
     }
 }
 
+// The samples to the buffer's front; what lies past them stays.
 fn copy(from: &[f32], out: &mut [f32])
     requires { ⌜ length (now from) ≤ length (now out) ⌝ }
     ensures { λ r. ⌜ now (out .exit) ≡ now (from .entry) ++ drop (length (now (from .entry))) (now (out .entry)) ⌝ }

@@ -1,11 +1,12 @@
 -- `bank::kinds::square` meets its contract: the state and the outcome are the call's. Assumes nothing.
 use mathlib.Core.Path.{ap}
-use Rattle.bank.specs.Bank.{withSuperSquare, played}
+use Rattle.bank.specs.Bank.{withSuperSquare, played, superSquarePlayed}
 use borrow.Author.Needs.{needs}
 use Rattle.bank.proofs.kinds.square.Statement.{statement}
 use Rattle.bank.proofs.kinds.square.Tie as tie
 
 returns : tie.Need-returns
+unfolding superSquarePlayed
 returns c =
     let k = c .before .before .before .before in
     let a = k .before .before .before .before .args in
