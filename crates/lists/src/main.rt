@@ -3,7 +3,6 @@
 ghost use Prim.Native.Nat.{_≤_, _<_};
 use libc::STDIN_FILENO;
 use libc::STDOUT_FILENO;
-use render::Written;
 
 // A proved loop has to end, and nothing says that the input does: so the turns are counted down, from a number that no run uses up.
 fn main() {
@@ -29,6 +28,7 @@ fn next_length() -> u32 {
     if n == 4 { word(&bytes) } else { u32::MAX }
 }
 
+// Four bytes, the lowest first.
 fn word(bytes: &[u8; 4]) -> u32 {
     wide(bytes[0])
         + wide(bytes[1]) * 0x100
@@ -36,6 +36,7 @@ fn word(bytes: &[u8; 4]) -> u32 {
         + wide(bytes[3]) * 0x100_0000
 }
 
+// A byte as a wider number: a cast in a function of its own asks nothing of its callers, and the bound is what a sum of four asks.
 fn wide(byte: u8) -> u32
     ensures { λ r. ⌜ r < 256 ⌝ }
 {
@@ -65,9 +66,8 @@ fn print_first(list: &[u8; 70000], n: usize) -> bool
 // The text that the renderer prints, and the line that ends it; answers whether all was written.
 fn print_text(list: &[u8]) -> bool {
     let mut text = [0u8; render::ROOM];
-    if let Written::Text(e) = render::render(list, &mut text) {
-        let is_written = io::write_all(STDOUT_FILENO, &text[0..e]);
-        return is_written & io::write_all(STDOUT_FILENO, b"-\n");
-    }
-    false
+    let written = render::render(list, &mut text);
+    let e = render::count(written);
+    let is_written = io::write_all(STDOUT_FILENO, &text[0..e]);
+    is_written & io::write_all(STDOUT_FILENO, b"-\n")
 }

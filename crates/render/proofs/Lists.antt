@@ -8,12 +8,12 @@ use native.Mathlib.Omega.{arith}
 use borrow.Author.Tests.{ne-eqb}
 use lib.Dec.{eqb, ltb}
 use lib.ListN.{length, take}
-use Rattle.block.specs.Counting.{oneIf}
+use Rattle.block.specs.Counting.{oneIf, told}
 use Rattle.bank.specs.declared.Bank.{Bank}
 use Rattle.bank.specs.declared.Outcome.{Outcome}
-use Rattle.render.specs.Line.{spelled, decimalOf, numberThen, lineOf}
+use Rattle.render.specs.Line.{spelled, decimalOf, numberThen, lineOf, recordLine}
 use Rattle.bank.specs.Bank.{initBank, recordPlayed}
-use Rattle.render.specs.Lists.{recordsFrom, runOf, numbered, linesOf}
+use Rattle.render.specs.Lists.{recordsFrom, runOf, numbered, linesOf, bankAfter, newLines}
 use Rattle.bank.proofs.Refused.{record-kept}
 
 -- what the first k lines say is what they say for the first k records alone
@@ -26,11 +26,6 @@ up-to b (suc k) (p ∷ rest) = ap (λ (l : List Outcome). recordPlayed b p .outc
 -- so two lists that agree on their first k records agree on what their first k lines say
 pub only-before : (b : Bank) (k : ℕ) (records others : List (List ℕ)) → take k records ≡ take k others → take k (runOf b records) ≡ take k (runOf b others)
 only-before b k records others h = up-to b k records ∙ ap (runOf b) h ∙ sym (up-to b k others)
-
--- the states that records leave
-unfoldable pub bankAfter : Bank → List (List ℕ) → Bank
-bankAfter b [] = b
-bankAfter b (p ∷ rest) = bankAfter (recordPlayed b p .bank) rest
 
 pub one-after-another : (b : Bank) (records others : List (List ℕ)) → runOf b (records ++ others) ≡ runOf b records ++ runOf (bankAfter b records) others
 unfolding runOf bankAfter
@@ -58,11 +53,7 @@ unfolding recordsFrom
 how-many list k zero = refl
 how-many list k (suc n) = ap suc (how-many list (suc k) n)
 
--- ---- the lines of the text itself: each ends with its one new line
-abbrev pub newLines : List ℕ → ℕ
-newLines [] = 0
-newLines (byte ∷ rest) = oneIf (eqb byte 10) + newLines rest
-
+-- ---- the lines of the text itself
 new-lines-both : (xs ys : List ℕ) → newLines (xs ++ ys) ≡ newLines xs + newLines ys
 new-lines-both [] ys = omega arith
 new-lines-both (x ∷ xs) ys = omega (arith, new-lines-both xs ys)
@@ -83,14 +74,16 @@ number-lines : (n after : ℕ) → newLines (numberThen n after) ≡ oneIf (eqb 
 unfolding numberThen decimalOf
 number-lines n after = rw (new-lines-both (spelled 10 n) (after ∷ []), none-in-digits 10 n) (omega arith)
 
-line-lines : (k : ℕ) (o : Outcome) → newLines (lineOf k o) ≡ 1
+line-lines : (ns : List ℕ) → newLines (lineOf ns) ≡ 1
 unfolding lineOf
-line-lines k o = simp (new-lines-both, number-lines)
+line-lines [] = refl
+line-lines (n ∷ []) = number-lines n 10
+line-lines (n ∷ m ∷ rest) = rw (new-lines-both (numberThen n 32) (lineOf (m ∷ rest)), number-lines n 32, line-lines (m ∷ rest))
 
 numbered-lines : (k : ℕ) (outcomes : List Outcome) → newLines (numbered k outcomes) ≡ length outcomes
 unfolding numbered
 numbered-lines k [] = refl
-numbered-lines k (o ∷ rest) = rw (new-lines-both (lineOf k o) (numbered (suc k) rest), line-lines k o, numbered-lines (suc k) rest) (omega arith)
+numbered-lines k (o ∷ rest) = rw (new-lines-both (recordLine k o) (numbered (suc k) rest), line-lines (k ∷ o .answer ∷ o .drift ∷ told (o .counts)), numbered-lines (suc k) rest) (omega arith)
 
 -- "the lines are as many as the records"
 pub lines-as-many : (records : List (List ℕ)) → newLines (linesOf records) ≡ length records

@@ -9,7 +9,7 @@ use lib.Ieee.{Float}
 use Rattle.jobs.specs.Words.{recordOf}
 use Rattle.bank.specs.declared.Bank.{Bank}
 use Rattle.bank.specs.declared.Played.{Played}
-use Rattle.render.specs.Line.{lineOf}
+use Rattle.render.specs.Line.{recordLine}
 use Rattle.bank.specs.Bank.{initBank, recordPlayed}
 use Rattle.bank.specs.Lent.{Handed, left, playOf}
 use Rattle.bank.proofs.Room.{always-room}
@@ -46,10 +46,10 @@ module _ (list d : List ℕ) (n : ℕ) where
     running-end h = rw (w .text 0 (omega (arith, w .most)), append-nil) (w .wrote)
 
     pub running-more : (r : Played) (e : ℕ) (d'' : List ℕ) → k < n → r ≡ saidOf (recordPlayed b (recordOf list k))
-        → Wrote d' at (lineOf k (r .outcome)) e d'' → e ≤ at + 77 → Running list d n d'' (r .bank) e (k + 1)
+        → Wrote d' at (recordLine k (r .outcome)) e d'' → e ≤ at + 77 → Running list d n d'' (r .bank) e (k + 1)
     unfolding numbered runOf recordsFrom
     running-more r e d'' h q p l =
-        let t : take e d'' ≡ take at d' ++ lineOf k (r .outcome) = rw (p .next, p .same) (take-laid d' at _ (omega (arith, p .next, p .room))) in
+        let t : take e d'' ≡ take at d' ++ recordLine k (r .outcome) = rw (p .next, p .same) (take-laid d' at _ (omega (arith, p .next, p .room))) in
         record {
           most = omega arith;
           short = omega (arith, w .short);

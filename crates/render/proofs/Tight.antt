@@ -1,17 +1,26 @@
--- The contract of `render`, as the kit reads it, determines all: number, length and text. Assumes nothing.
+-- The contracts of `render` and `count`, as the kit reads them, determine all: number, length and text. Assumes nothing.
 use mathlib.Core.Path.{_≡_, refl, ap}
 use native.Mathlib.Omega.{arith}
 use Rattle.floats.proofs.Contracts.{Determines, coincide}
 use Rattle.render.specs.declared.Written.{Written}
-use Rattle.render.specs.declared.Written.the-variants.{Text, NoRoom}
+use Rattle.render.specs.declared.Written.the-variants.{Text, BadInput, NoRoom}
 use Rattle.render.specs.Lists.{Handed, numberOf, countOf}
+use Rattle.render.proofs.count
 use Rattle.render.proofs.render
 
 same-written : (r q : Written) → numberOf r ≡ numberOf q → countOf r ≡ countOf q → r ≡ q
 same-written (Text n) (Text m) h k = ap Text k
+same-written (Text n) (BadInput m) h k = absurd (omega (arith, h))
 same-written (Text n) NoRoom h k = absurd (omega (arith, h))
+same-written (BadInput n) (Text m) h k = absurd (omega (arith, h))
+same-written (BadInput n) (BadInput m) h k = ap BadInput k
+same-written (BadInput n) NoRoom h k = absurd (omega (arith, h))
 same-written NoRoom (Text m) h k = absurd (omega (arith, h))
+same-written NoRoom (BadInput m) h k = absurd (omega (arith, h))
 same-written NoRoom NoRoom h k = refl
+
+pub count-tight : Determines count.ended count.Reads.Learnt
+count-tight κs a r q v w h k = (coincide h k, refl)
 
 pub render-tight : Determines render.ended render.Reads.Learnt
 render-tight κs a r q v w h k =

@@ -1,8 +1,9 @@
--- A record's line: "record index, answer, Drift index (else 0), cycles, rises, falls, cuts". Assumes nothing.
+-- A line of the renderer: numbers in decimal. Assumes nothing.
 use mathlib.Core.Bool.{cond}
 use mathlib.Core.List.{List, [], _∷_, _++_}
 use Prim.Native.Nat.{ℕ, zero, suc, _+_, _/_, _%_}
 use lib.Dec.{ltb}
+use Rattle.block.specs.Counting.{told}
 use Rattle.bank.specs.declared.Outcome.{Outcome}
 
 -- the last f digits of n, the most significant first, and no zero before them; in ASCII the digit 0 is 48
@@ -18,7 +19,12 @@ decimalOf n = spelled 10 n
 unfoldable pub numberThen : ℕ → ℕ → List ℕ
 numberThen n after = decimalOf n ++ (after ∷ [])
 
-unfoldable pub lineOf : ℕ → Outcome → List ℕ
-lineOf k o =
-    numberThen k 32 ++ numberThen (o .answer) 32 ++ numberThen (o .drift) 32
-    ++ numberThen (o .counts .cycles) 32 ++ numberThen (o .counts .rises) 32 ++ numberThen (o .counts .falls) 32 ++ numberThen (o .counts .cuts) 10
+-- numbers on a line of their own: in decimal, a space between, a new line at the end
+unfoldable pub lineOf : List ℕ → List ℕ
+lineOf [] = 10 ∷ []
+lineOf (n ∷ []) = numberThen n 10
+lineOf (n ∷ m ∷ rest) = numberThen n 32 ++ lineOf (m ∷ rest)
+
+-- "record index, answer, Drift index (else 0), cycles, rises, falls, cuts"
+abbrev pub recordLine : ℕ → Outcome → List ℕ
+recordLine k o = lineOf (k ∷ o .answer ∷ o .drift ∷ told (o .counts))

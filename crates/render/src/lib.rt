@@ -2,54 +2,85 @@
 ghost use mathlib.Core.Path.{_≡_};
 ghost use Prim.Native.Nat.{_≤_};
 ghost use lib.ListN.{length};
-ghost use Rattle.render.specs.Lists.{recordsFrom, linesOf, textOf, written, left};
+ghost use Rattle.render.specs.Lists.{recordsFrom, linesOf, isJobList, textOf, answerIf, written, renderOf, countOf, left};
 ghost use Rattle.bank.specs.Bank.{recordPlayed};
-ghost use Rattle.render.specs.Private.{Wrote, saidOf};
+ghost use Rattle.render.specs.Private.{Wrote, fittedOf, saidOf};
 use bank::Bank;
 use bank::Played;
+use block::Answer;
 
 mod text;
 
 // No text is longer: 1,024 lines of seven numbers, each of ten digits and one byte more.
 pub const ROOM: usize = 78848;
 
-// How many bytes were written, or that the text would not have fitted, and nothing was.
+// How many bytes were written: the lines of all records, or the one line of a malformed list. Or the text would not have fitted, and nothing was.
 pub enum Written {
     Text(usize),
+    BadInput(usize),
     NoRoom,
 }
 
-// The lines of every record, or the one line `8` for a list that is too long or no multiple of 64.
+// How many bytes of the buffer are the text, whichever it is; 0 where there was no room.
+pub fn count(written: Written) -> usize
+    ensures { λ r. ⌜ r ≡ countOf written ⌝ }
+{
+    match written {
+        Written::Text(n) => n,
+        Written::BadInput(n) => n,
+        Written::NoRoom => 0,
+    }
+}
+
+// The lines of every record, or the one line `8` for a list that is too long or no multiple of 64. The text is composed apart, so that nothing is
+// written where not all of it fits.
 pub fn render(list: &[u8], out: &mut [u8]) -> Written
-    ensures { λ r. ⌜ left r (now (out .exit)) ≡ written (textOf (now (list .entry))) (now (out .entry)) ⌝ }
+    ensures { λ r. ⌜ left r (now (out .exit)) ≡ renderOf (now (list .entry)) (now (out .entry)) ⌝ }
 {
     let mut whole = [0u8; ROOM];
     let n = compose(list, &mut whole);
-    hand_over(&whole[0..n], out)
+    hand_over(is_job_list(list), &whole[0..n], out)
+}
+
+// At most 1,024 records, and each of them whole. The empty list is one.
+fn is_job_list(list: &[u8]) -> bool
+    ensures { λ r. ⌜ r ≡ isJobList (now (list .entry)) ⌝ }
+{
+    (list.len() <= 65536) & (list.len() % 64 == 0)
 }
 
 // The text, where it fits.
-fn hand_over(from: &[u8], out: &mut [u8]) -> Written
-    ensures { λ r. ⌜ left r (now (out .exit)) ≡ written (now (from .entry)) (now (out .entry)) ⌝ }
+fn hand_over(good: bool, from: &[u8], out: &mut [u8]) -> Written
+    ensures { λ r. ⌜ left r (now (out .exit)) ≡ written (answerIf good) (now (from .entry)) (now (out .entry)) ⌝ }
 {
     if from.len() <= out.len() {
-        Written::Text(text::append(out, 0, from))
+        fitted(good, text::append(out, 0, from))
     } else {
         Written::NoRoom
     }
 }
 
+// A text of n bytes that was written, as the answer to a good list or to a malformed one.
+fn fitted(good: bool, n: usize) -> Written
+    ensures { λ r. ⌜ r ≡ fittedOf good n ⌝ }
+{
+    if good {
+        Written::Text(n)
+    } else {
+        Written::BadInput(n)
+    }
+}
+
+// The text from the buffer's front on, and how long it is.
 fn compose(list: &[u8], out: &mut [u8]) -> usize
     requires { ⌜ 78848 ≤ length (now out) ⌝ }
     ensures { λ r. ⌜ Wrote (now (out .entry)) 0 (textOf (now (list .entry))) r (now (out .exit)) ⌝ }
 {
-    if list.len() > 65536 {
-        return text::append(out, 0, b"8\n");
+    if is_job_list(list) {
+        records(list, list.len() / 64, out)
+    } else {
+        text::number(out, 0, block::number(Answer::BadInput), b'\n')
     }
-    if list.len() % 64 != 0 {
-        return text::append(out, 0, b"8\n");
-    }
-    records(list, list.len() / 64, out)
 }
 
 // The lines of the first n records. Each kind's state goes from record to record.

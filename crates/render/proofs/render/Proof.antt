@@ -1,8 +1,9 @@
 -- `render::render` meets its contract: the text is composed apart, and handed over where it fits. Assumes nothing.
 use mathlib.Core.Path.{_∙_, ap}
-use Prim.Native.Nat.{ℕ}
+use mathlib.Core.Bool.{Bool}
 use mathlib.Core.List.{List}
-use Rattle.render.specs.Lists.{written}
+use Prim.Native.Nat.{ℕ}
+use Rattle.render.specs.Lists.{textOf, answerIf, written}
 use Rattle.render.proofs.Laying.{read-back}
 use borrow.Author.Needs.{needs}
 use Rattle.render.proofs.render.Statement.{statement}
@@ -10,16 +11,19 @@ use Rattle.render.proofs.render.Tie as tie
 
 returns : tie.Need-returns
 returns c =
-    let k = c .before .before in
-    let m = k .before .before .before .before .before in
-    let a = m .before .before .before .before .args in
-    k .hand-over .ensures ∙ ap (λ (text : List ℕ). written text (a .out .now)) (read-back _ _ _ _ (m .compose .ensures))
+    let handed = c .before .before in
+    let tested = handed .before .before .before .before in
+    let composed = tested .before .before in
+    let a = composed .before .before .before .before .args in
+    handed .hand-over .ensures ∙ ap (λ (text : List ℕ). written (answerIf (tested .is-job-list .result)) text (a .out .now)) (read-back _ _ _ _ (composed .compose .ensures))
+    ∙ ap (λ (good : Bool). written (answerIf good) (textOf (a .list .now)) (a .out .now)) (tested .is-job-list .ensures)
 
 pub render-spec : {M : Type 1} → statement M
 render-spec =
     tie.close
     (tie.spec
     (λ c. search needs)
+    (λ c κs. search needs)
     (λ c κs. search needs)
     (λ c. search needs)
     (λ c. search needs)

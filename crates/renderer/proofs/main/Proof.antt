@@ -6,9 +6,9 @@ use Rattle.renderer.proofs.main.Tie as tie
 
 part-write-all-end : tie.Need-part-write-all-end
 part-write-all-end c =
-    let e = c .before .before in
-    let k = e .before .before .before in
-    rw (e .e .given .1) at (inside (k .render .result) _ _ _ (k .render .ensures))
+    let counted = c .before in
+    let rendered = counted .before .before in
+    rw (counted .count .ensures) (inside (rendered .render .result) _ _ _ _ (rendered .render .ensures))
 
 pub main-spec : {M : Type 1} → statement M
 main-spec =
@@ -20,11 +20,9 @@ main-spec =
     (λ c. search needs)
     (λ c. search needs)
     (λ c κs. search needs)
-    (λ c. search needs)
+    (λ c κs. search needs)
     (λ c. search needs)
     (λ c. search needs)
     part-write-all-end
     (λ c κs. search needs)
-    (λ c. search needs)
-    (λ c. search needs)
     (λ c. search needs))

@@ -1,7 +1,7 @@
 -- `super_square_face::render` meets its contract: the super square's own call, put into words. Assumes nothing.
 use mathlib.Core.Path.{_∙_, sym}
 use borrow.Author.Needs.{needs}
-use Rattle.floats.proofs.Choices.{chosen, other}
+use Rattle.floats.proofs.Bools.{chosen, other}
 use Rattle.words.proofs.Faces.{face-is}
 use Rattle.super_square_face.proofs.render.Statement.{statement}
 use Rattle.super_square_face.proofs.render.Tie as tie

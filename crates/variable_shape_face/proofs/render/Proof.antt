@@ -1,7 +1,7 @@
 -- `variable_shape_face::render` meets its contract: the variable shape's own call, put into words. Assumes nothing.
 use mathlib.Core.Path.{_∙_, sym}
 use borrow.Author.Needs.{needs}
-use Rattle.floats.proofs.Choices.{chosen, other}
+use Rattle.floats.proofs.Bools.{chosen, other}
 use Rattle.words.proofs.Faces.{face-is}
 use Rattle.variable_shape_face.proofs.render.Statement.{statement}
 use Rattle.variable_shape_face.proofs.render.Tie as tie
