@@ -13,7 +13,9 @@ returns : tie.Need-returns
 unfolding plainSample
 returns c =
     let x = c .before .before .before .before in
-    rw (c .finish .ensures, c .before .free-cycles .ensures, c .before .before .after .ensures, x .cross .ensures, x .before .edge .ensures, x .before .before .at .ensures) refl
+    let p = x .before .before .before .args in
+    rw (c .finish .ensures, c .before .free-cycles .ensures, c .before .before .after .ensures, x .cross .ensures, x .before .edge .ensures, x .before .before .at .ensures)
+    (refl {a = plainSample (p .sync) (p .phase-output) (p .s) (p .steps) (p .master-phase)})
 
 pub plain-sample-spec : {M : Type 1} → statement M
 plain-sample-spec =

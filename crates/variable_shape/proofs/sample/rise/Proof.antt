@@ -12,7 +12,8 @@ returns c =
     let t = n .before in
     let b = t .before .before .before in
     let s = b .before .before in
-    rw (s .triangle-step .ensures, b .this-blep-sample .ensures, t .this-integrated-blep-sample .ensures, n .next-blep-sample .ensures, c .before .next-integrated-blep-sample .ensures, c .rose .ensures, s .before .rise-time .ensures) refl
+    let p = s .before .before .args in
+    rw (s .triangle-step .ensures, b .this-blep-sample .ensures, t .this-integrated-blep-sample .ensures, n .next-blep-sample .ensures, c .before .next-integrated-blep-sample .ensures, c .rose .ensures, s .before .rise-time .ensures) (refl {a = riseOf (p .w) (p .e)})
 
 pub rise-spec : {M : Type 1} → statement M
 rise-spec =
