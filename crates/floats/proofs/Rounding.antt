@@ -141,11 +141,11 @@ pub rnd-same : (a b c d : ℕ) → 0 < b → 0 < d → a * d ≡ c * b → rnd a
 rnd-same a b c d B D e = le-antisymm (rnd-mono a b c d B D (le-of-eq e)) (rnd-mono c d a b D B (le-of-eq (sym e)))
 
 -- against a bound that binary32 holds
-pub rnd-up : (n B : ℕ) → rnd B 1 ≡ B → n ≤ B → rnd n 1 ≤ B
-rnd-up n B e h = le-trans (rnd-mono n 1 B 1 (zero-lt-suc 0) (zero-lt-suc 0) (mul-le-mul-right 1 h)) (le-of-eq e)
+pub rnd-up : {n B : ℕ} → rnd B 1 ≡ B → n ≤ B → rnd n 1 ≤ B
+rnd-up {n} {B} e h = le-trans (rnd-mono n 1 B 1 (zero-lt-suc 0) (zero-lt-suc 0) (mul-le-mul-right 1 h)) (le-of-eq e)
 
-pub rnd-dn : (n B : ℕ) → rnd B 1 ≡ B → B ≤ n → B ≤ rnd n 1
-rnd-dn n B e h = le-trans (le-of-eq (sym e)) (rnd-mono B 1 n 1 (zero-lt-suc 0) (zero-lt-suc 0) (mul-le-mul-right 1 h))
+pub rnd-dn : {n B : ℕ} → rnd B 1 ≡ B → B ≤ n → B ≤ rnd n 1
+rnd-dn {n} {B} e h = le-trans (le-of-eq (sym e)) (rnd-mono B 1 n 1 (zero-lt-suc 0) (zero-lt-suc 0) (mul-le-mul-right 1 h))
 
 -- ---- where it changes nothing: at q * 2 ^ j with q of 24 digits
 above-zero : (u : ℕ) → 0 < u → compare 0 u ≡ Ordering·lt

@@ -121,12 +121,12 @@ pub record Sum (z : Float) (a b B e : ℕ) : Type 0 where
 
 pub sum-with : {x y : Float} {a b : ℕ} (B e : ℕ) → At x a → At y b → rnd B 1 ≡ B → B < huge → a + b ≤ B → Within (rnd (a + b) 1) (a + b) e → Sum (x ⊕ y) a b B e
 sum-with {x} {y} {a} {b} B e p q r h l w =
-    let t : rnd (a + b) 1 ≤ B = rnd-up (a + b) B r l in
+    let t : rnd (a + b) 1 ≤ B = rnd-up r l in
     record {
       n = rnd (a + b) 1;
       at = add-at p q (lt-of-le-of-lt t h);
       near = w;
-      left = rnd-dn (a + b) a (at-rnd p) (omega arith);
+      left = rnd-dn (at-rnd p) (omega arith);
       top = t;
     }
 

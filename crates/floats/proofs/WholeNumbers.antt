@@ -11,9 +11,9 @@ use lib.Ieee.Fits.{ofInt-fits}
 use Rattle.floats.specs.F32.{whole32}
 use Rattle.floats.proofs.At.{At, Reads}
 
-pub whole-at : (n : ℕ) → n ≤ 2 ^ 24 → At (whole32 n) (n * 2 ^ 149)
+pub whole-at : {n : ℕ} → n ≤ 2 ^ 24 → At (whole32 n) (n * 2 ^ 149)
 unfolding ofInt
-whole-at n h = record { fit = ofInt-fits binary32 (pos n); reads = go (round binary32 false n 1) (round-whole binary32 false n h) }
+whole-at {n} h = record { fit = ofInt-fits binary32 (pos n); reads = go (round binary32 false n 1) (round-whole binary32 false n h) }
   where
     go : (x : Float) → HasValue x false n 1 → Reads x (n * 2 ^ 149)
     go nan v = v

@@ -43,7 +43,7 @@ module _ {x : Float} {n : ℕ} (bits : ℕ) (few : bits ≤ 16) (p : At x n) (h 
   whole-under = div-lt-iff-lt-mul (pow-pos 149) .1 below
 
   product : At (x ⊗ whole32 (2 ^ bits)) (n * 2 ^ bits)
-  product = mul-pow bits p (whole-at (2 ^ bits) (le-trans (few-steps bits few) (lit≤ tt))) (lt-of-lt-of-le below (le-trans (mul-le-mul-right (2 ^ 149) most) (lit≤ tt)))
+  product = mul-pow bits p (whole-at (le-trans (few-steps bits few) (lit≤ tt))) (lt-of-lt-of-le below (le-trans (mul-le-mul-right (2 ^ 149) most) (lit≤ tt)))
 
   pub whole-is : wholePart (x ⊗ whole32 (2 ^ bits)) ≡ n * 2 ^ bits / 2 ^ 149
   whole-is = whole-part-at product (lt-of-lt-of-le whole-under most)

@@ -13,23 +13,7 @@ Inv-loop bits exponent₀ next₀ exponent next =
 abbrev μ-loop : tie.MeasureT-loop
 μ-loop bits exponent₀ next₀ exponent next = bits + 8388608 - next
 
-loop-holds : tie.Need-loop-holds Inv-loop μ-loop
-loop-holds c = omega arith
-
-add-exponent : tie.Need-add-exponent Inv-loop μ-loop
-add-exponent c = omega arith
-
-add-next : tie.Need-add-next Inv-loop μ-loop
-add-next c = omega arith
-
-loop-less : tie.Need-loop-less Inv-loop μ-loop
-loop-less c = omega arith
-
-loop-again : tie.Need-loop-again Inv-loop μ-loop
-loop-again c = omega arith
-
-returns : tie.Need-returns Inv-loop μ-loop
-returns c = omega arith
-
 pub exponent-spec : {M : Type 1} → statement M
-exponent-spec = tie.close (tie.spec Inv-loop μ-loop loop-holds add-exponent add-next loop-less loop-again returns)
+exponent-spec =
+    tie.close
+    (tie.spec Inv-loop μ-loop (λ c. omega arith) (λ c. omega arith) (λ c. omega arith) (λ c. omega arith) (λ c. omega arith) (λ c. omega arith))
