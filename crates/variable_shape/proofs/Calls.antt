@@ -1,21 +1,22 @@
 -- What a call of the variable shape makes sure of, and what `render` leaves once its checks have passed. Assumes nothing.
-use mathlib.Core.Path.{_≡_, sym, _∙_}
-use mathlib.Core.Bool.{Bool, true}
-use mathlib.Core.List.{[], _∷_}
-use Prim.Native.Nat.{ℕ}
-use lib.Ieee.{Float}
+use mathlib.Core.Path.{_≡_, refl, _∙_}
+use mathlib.Core.Bool.{Bool, true, false, cond}
+use mathlib.Core.List.{List, [], _∷_, _++_}
+use lib.ListN.{length}
+use Rattle.parameter_interpolator.specs.declared.ParameterInterpolator.{ParameterInterpolator}
+use Rattle.parameter_interpolator.specs.Interpolator.{newInterpolator}
 use Rattle.ranges.specs.Ranges.{sixteenIn}
 use Rattle.block.specs.Calls.{Call, run}
 use Rattle.block.specs.Checks.{AllPass}
-use Rattle.block.specs.Oscillator.{checksOf}
+use Rattle.block.specs.Oscillator.{checksOf, callOf}
 use Rattle.block.specs.Account.{AllFit}
 use Rattle.ranges.proofs.AllOf.{each-of}
 use Rattle.rooms.proofs.RangeLaws.{phase-under}
-use Rattle.block.proofs.Ways.{runs}
+use Rattle.rooms.proofs.Padding.{used}
+use Rattle.block.proofs.Ways.{run-from}
 use Rattle.variable_shape.specs.declared.State.{State}
-use Rattle.variable_shape.specs.declared.steps.Interpolators.{Interpolators}
 use Rattle.variable_shape.specs.Sample.{sampleAt}
-use Rattle.variable_shape.specs.Block.{stateIn, Arguments, interpolatorsOf, movingOf, stepping, rooms, variableShape, renderOf}
+use Rattle.variable_shape.specs.Block.{stateIn, Arguments, interpolators, rooms, variableShape}
 use Rattle.variable_shape.specs.Private.{Valid}
 
 module _ (s : State) (h : stateIn s ≡ true) where
@@ -28,13 +29,21 @@ module _ (s : State) (h : stateIn s ≡ true) where
   unfolding stateIn
   modulation-in = each-of _ h .1 .1 .1 .1 .1 .1 .1 .0
 
--- phase modulation's interpolator starts from the state
-pub starts : (s : State) (masterFrequency frequency pw waveshape phaseModulation : Float) (n : ℕ) (p : Interpolators) → p ≡ interpolatorsOf s masterFrequency frequency pw waveshape phaseModulation n
-    → p .«phase_modulation» .value ≡ s .«phase_modulation»
-starts s masterFrequency frequency pw waveshape phaseModulation n p e = rw e
+-- a call's interpolators, with phase modulation's or without
+abbrev made : State → Arguments → Bool → List ParameterInterpolator
+made s a on = interpolators s (a .master-frequency) (a .frequency) (a .pw) (a .waveshape) (a .phase-modulation) on (length (a .buffer))
 
--- the interpolators that `render` makes are the definition's
-pub rendered : (sync : Bool) (s : State) (a : Arguments) (c : Call State) → AllPass (checksOf (variableShape sync) s a) → (p : Interpolators) → p ≡ movingOf s a
-    → c ≡ run (sampleAt sync (a .phase-output)) (rooms (a .phase-output)) (stepping (a .phase-output) p) s (a .buffer)
-    → c ≡ renderOf s (a .master-frequency) (a .frequency) (a .pw) (a .waveshape) (a .phase-modulation) sync (a .phase-output) (a .buffer)
-rendered sync s a c q p at-p e = e ∙ rw at-p (sym (runs (variableShape sync) s a q))
+module _ (s : State) (a : Arguments) where
+  -- each has its room
+  pub paired : (on : Bool) → length (made s a on) ≡ length (rooms on)
+  paired true = refl
+  paired false = refl
+
+  places : (on : Bool) → made s a true ≡ made s a on ++ cond on [] (newInterpolator (s .«phase_modulation») (a .phase-modulation) (length (a .buffer)) ∷ [])
+  places true = refl
+  places false = refl
+
+  -- what `render` leaves once its checks have passed: it makes all five, and without phase output the last is not used
+  pub rendered : (sync : Bool) {ps : List ParameterInterpolator} {c : Call State} → AllPass (checksOf (variableShape sync) s a) → ps ≡ made s a true
+      → c ≡ run (sampleAt sync (a .phase-output)) (rooms (a .phase-output)) (used (rooms (a .phase-output)) ps) s (a .buffer) → c ≡ callOf (variableShape sync) s a
+  rendered sync q at e = run-from (variableShape sync) s a (paired (a .phase-output)) q _ (at ∙ places (a .phase-output)) e

@@ -1,7 +1,6 @@
 -- The laws of the variable shape.
 pub mod Edges
 pub mod Keeping
-pub mod Loop
 pub mod Calls
 pub mod Phase
 pub mod Tight

@@ -19,10 +19,9 @@ use Rattle.block.proofs.Oscillators.{answered-valid}
 use Rattle.variable_shape.specs.declared.State.{State}
 use Rattle.variable_shape.specs.State.{newState, initState}
 use Rattle.variable_shape.specs.Sample.{stepsAt, sampleAt}
-use Rattle.variable_shape.specs.Block.{stateIn, rooms, Arguments, movingOf, variableShape}
+use Rattle.variable_shape.specs.Block.{stateIn, rooms, Arguments, variableShape}
 use Rattle.variable_shape.specs.Private.{Valid}
-use Rattle.variable_shape.proofs.Calls.{valid-of}
-use Rattle.variable_shape.proofs.Loop.{paired}
+use Rattle.variable_shape.proofs.Calls.{valid-of, paired}
 use Rattle.variable_shape.proofs.Keeping.{Law, sample-law, ready-of, keeps}
 
 law-of : (sync phaseOutput : Bool) (s : State) (steps : List Float) (x : Float) → Valid s → Inside (rooms phaseOutput) steps
@@ -38,7 +37,7 @@ one-sample false phaseOutput s steps x v i = law-of false phaseOutput s steps x 
 pub laws : (sync : Bool) → Laws (variableShape sync) (λ a. Valid) cycle tick
 laws sync = record {
   ordered = λ s a. (lit< tt, (lit< tt, (lit< tt, tt)));
-  paired = λ s a. paired (a .phase-output) (movingOf s a);
+  paired = λ s a. paired s a (a .phase-output);
   passed = λ s a f p. valid-of s (p .0) f;
   fits = λ s a v. (v .master .at .fit, (v .slave .at .fit, tt));
   keeps = λ a. keeps sync (a .phase-output);

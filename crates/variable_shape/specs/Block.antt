@@ -16,7 +16,6 @@ use Rattle.block.specs.Checks.{_unless_}
 use Rattle.block.specs.Oscillator.{Oscillator, callOf}
 use Rattle.variable_shape.specs.declared.State.{State}
 use Rattle.variable_shape.specs.declared.Rendered.{Rendered}
-use Rattle.variable_shape.specs.declared.steps.Interpolators.{Interpolators}
 use Rattle.variable_shape.specs.Sample.{sampleAt}
 
 -- 01, "State": phases at least 0 and below 1, frequencies 0 to 17/64, widths 0 to 1, waveshape -1 to 2, phase modulation -16 to 16, `next_sample` any bits
@@ -54,23 +53,15 @@ pub record Arguments : Type 0 where
   pub phase-output : Bool
   pub buffer : List Float
 
--- lines 68 to 91: each parameter moves to its target, the frequencies clipped, the width clamped by the clipped frequency
-abbrev pub interpolatorsOf : State → Float → Float → Float → Float → Float → ℕ → Interpolators
-interpolatorsOf s masterFrequency frequency pw waveshape phaseModulation n = record {
-  «master_fm» = newInterpolator (s .«master_frequency») (clipped masterFrequency) n;
-  fm = newInterpolator (s .«slave_frequency») (clipped frequency) n;
-  pwm = newInterpolator (s .pw) (clampedWidth (clipped frequency) pw) n;
-  «waveshape_modulation» = newInterpolator (s .waveshape) waveshape n;
-  «phase_modulation» = newInterpolator (s .«phase_modulation») phaseModulation n;
-}
-
-abbrev pub movingOf : State → Arguments → Interpolators
-movingOf s a = interpolatorsOf s (a .master-frequency) (a .frequency) (a .pw) (a .waveshape) (a .phase-modulation) (length (a .buffer))
-
--- those that the source steps: phase modulation's only where the phase is put out (line 204)
-abbrev pub stepping : Bool → Interpolators → List ParameterInterpolator
-stepping phaseOutput p =
-    p .«master_fm» ∷ p .fm ∷ p .pwm ∷ p .«waveshape_modulation» ∷ cond phaseOutput (p .«phase_modulation» ∷ []) []
+-- Lines 68 to 91: each parameter moves to its target, the frequencies clipped, the width clamped by the clipped frequency. These are those that the source
+-- steps: phase modulation's only where the phase is put out (line 204).
+abbrev pub interpolators : State → Float → Float → Float → Float → Float → Bool → ℕ → List ParameterInterpolator
+interpolators s masterFrequency frequency pw waveshape phaseModulation phaseOutput n =
+    newInterpolator (s .«master_frequency») (clipped masterFrequency) n
+    ∷ newInterpolator (s .«slave_frequency») (clipped frequency) n
+    ∷ newInterpolator (s .pw) (clampedWidth (clipped frequency) pw) n
+    ∷ newInterpolator (s .waveshape) waveshape n
+    ∷ cond phaseOutput (newInterpolator (s .«phase_modulation») phaseModulation n ∷ []) []
 
 -- and their rooms
 abbrev pub rooms : Bool → List Room
@@ -85,7 +76,7 @@ abbrev pub variableShape : Bool → Oscillator State Arguments
 variableShape sync = record {
   buffer = λ a. a .buffer;
   checks = λ s a. 3 unless stateIn s ∷ 4 unless parametersIn (a .master-frequency) (a .frequency) (a .pw) (a .waveshape) (a .phase-modulation) ∷ [];
-  moving = λ s a. stepping (a .phase-output) (movingOf s a);
+  moving = λ s a. interpolators s (a .master-frequency) (a .frequency) (a .pw) (a .waveshape) (a .phase-modulation) (a .phase-output) (length (a .buffer));
   rooms = λ a. rooms (a .phase-output);
   sample = λ a. sampleAt sync (a .phase-output);
   phases = λ s. s .«master_phase» ∷ s .«slave_phase» ∷ [];

@@ -5,8 +5,6 @@ use mathlib.Core.Bool.{Bool, true, cond}
 use Prim.Native.Nat.{_*_}
 use Rattle.floats.proofs.Ticks.{tick, cycle}
 use Rattle.floats.proofs.Ranges.{Under, Positive}
-use Rattle.parameter_interpolator.specs.declared.ParameterInterpolator.{ParameterInterpolator}
-use Rattle.parameter_interpolator.specs.Interpolator.{nextInterpolator}
 use Rattle.block.specs.declared.Answer.{Answer}
 use Rattle.rooms.specs.declared.Room.{Room}
 use Rattle.rooms.specs.declared.Room.the-variants.{Unused, Sixteen}
@@ -14,7 +12,6 @@ use Rattle.block.specs.Counting.{noCounts}
 use Rattle.ranges.specs.Ranges.{waveshapeIn, sixteenIn}
 use Rattle.variable_shape.specs.declared.State.{State}
 use Rattle.variable_shape.specs.declared.Rendered.{Rendered}
-use Rattle.variable_shape.specs.declared.steps.Interpolators.{Interpolators}
 use Rattle.variable_shape.specs.declared.steps.Steps.{Steps}
 use Rattle.variable_shape.specs.Block.{stateIn}
 
@@ -33,36 +30,9 @@ pub record Ready (s : State) (steps : Steps) : Type 0 where
   pub waveshape : waveshapeIn (steps .waveshape) ≡ true
   pub modulation : sixteenIn (steps .«phase_modulation») ≡ true
 
--- a valid state, and phase modulation's interpolator starts from it
-pub record Started (p : Interpolators) (s : State) : Type 0 where
-  pub valid : Valid s
-  pub start : p .«phase_modulation» .value ≡ s .«phase_modulation»
-
 abbrev pub refused : Answer → State → Rendered
 refused answer s = record { answer = answer; state = s; counts = noCounts }
 
 -- the fifth room of the walk
 abbrev pub modulationRoom : Bool → Room
 modulationRoom phaseOutput = cond phaseOutput Sixteen Unused
-
-abbrev pub nextIf : Bool → ParameterInterpolator → ParameterInterpolator
-nextIf on p = cond on (nextInterpolator p) p
-
--- the interpolators one sample on
-abbrev pub advanced : Bool → Interpolators → Interpolators
-advanced phaseOutput p = record {
-  «master_fm» = nextInterpolator (p .«master_fm»);
-  fm = nextInterpolator (p .fm);
-  pwm = nextInterpolator (p .pwm);
-  «waveshape_modulation» = nextInterpolator (p .«waveshape_modulation»);
-  «phase_modulation» = nextIf phaseOutput (p .«phase_modulation»);
-}
-
-abbrev pub valuesOf : Interpolators → Steps
-valuesOf p = record {
-  «master_frequency» = p .«master_fm» .value;
-  «slave_frequency» = p .fm .value;
-  pw = p .pwm .value;
-  waveshape = p .«waveshape_modulation» .value;
-  «phase_modulation» = p .«phase_modulation» .value;
-}

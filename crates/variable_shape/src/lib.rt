@@ -1,17 +1,20 @@
 // A waveform from triangle over saw to square, whose phase can be reset by a master: the source's oscillator/variable_shape_oscillator.rs.
 ghost use mathlib.Core.Path.{_≡_};
-ghost use Rattle.rooms.specs.Steps.{stepsOf, firstOutside};
+ghost use mathlib.Core.Bool.{true};
+ghost use Rattle.rooms.proofs.Padding.{used};
 ghost use Rattle.block.specs.Calls.{run};
 ghost use Rattle.block.specs.Fit.{Fit, Playable, playedOf};
 ghost use Rattle.variable_shape.specs.State.{newState, initState};
 ghost use Rattle.variable_shape.specs.Sample.{sampleAt};
-ghost use Rattle.variable_shape.specs.Block.{stateIn, parametersIn, stepping, rooms, renderOf, left};
-ghost use Rattle.variable_shape.specs.Private.{Started, refused, modulationRoom};
+ghost use Rattle.variable_shape.specs.Block.{stateIn, parametersIn, interpolators as interpolatorsTo, rooms, renderOf, left};
+ghost use Rattle.variable_shape.specs.Private.{Valid, refused, modulationRoom};
 use block::Answer;
 use block::Counts;
+use parameter_interpolator::ParameterInterpolator;
+use ranges::targets;
 use rooms::Found;
 use rooms::Room;
-use steps::Interpolators;
+use steps::Steps;
 
 mod master_phase;
 mod output;
@@ -105,7 +108,7 @@ pub fn render(
         return refuse(Answer::BadParam, state);
     }
     let n = out.len() as u32;
-    let p = steps::start(
+    let p = interpolators(
         state,
         master_frequency,
         frequency,
@@ -156,6 +159,30 @@ fn refuse(answer: Answer, state: State) -> Rendered
     }
 }
 
+// All five parameters on their way to their targets, over n samples, as the source makes them: without phase output the last place is not used.
+fn interpolators(
+    s: State,
+    master_frequency: f32,
+    frequency: f32,
+    pw: f32,
+    waveshape: f32,
+    phase_modulation: f32,
+    n: u32,
+) -> [ParameterInterpolator; 5]
+    ensures { λ r. ⌜ r ≡ interpolatorsTo s «master_frequency» frequency pw waveshape «phase_modulation» true n ⌝ }
+{
+    let master_target = targets::clip(master_frequency);
+    let slave_target = targets::clip(frequency);
+    let pw_target = targets::clamp_width(slave_target, pw);
+    [
+        ParameterInterpolator::new(s.master_frequency, master_target, n),
+        ParameterInterpolator::new(s.slave_frequency, slave_target, n),
+        ParameterInterpolator::new(s.pw, pw_target, n),
+        ParameterInterpolator::new(s.waveshape, waveshape, n),
+        ParameterInterpolator::new(s.phase_modulation, phase_modulation, n),
+    ]
+}
+
 // Phase modulation takes steps only where the phase is put out.
 fn modulation_room(phase_output: bool) -> Room
     ensures { λ r. ⌜ r ≡ modulationRoom «phase_output» ⌝ }
@@ -167,16 +194,17 @@ fn modulation_room(phase_output: bool) -> Room
     }
 }
 
-// The first sample with a step outside its room.
-fn walk(p: Interpolators, phase_output: bool, n: u32) -> Found
-    ensures { λ r. ⌜ r ≡ firstOutside (rooms «phase_output») (stepsOf n (stepping «phase_output» p)) ⌝ }
+// Drift where a step leaves its room, else the samples.
+fn drift_or_play(
+    state: State,
+    p: [ParameterInterpolator; 5],
+    sync: bool,
+    phase_output: bool,
+    out: &mut [f32],
+) -> Rendered
+    requires { ⌜ Fit Valid state (now out) ⌝ }
+    ensures { λ r. ⌜ left r (now (out .exit)) ≡ run (sampleAt sync «phase_output») (rooms «phase_output») (used (rooms «phase_output») p) state (now (out .entry)) ⌝ }
 {
-    let master_fm = p.master_fm;
-    let fm = p.fm;
-    let pwm = p.pwm;
-    let waveshape_modulation = p.waveshape_modulation;
-    let phase_modulation = p.phase_modulation;
-    let moving = [master_fm, fm, pwm, waveshape_modulation, phase_modulation];
     let kept = [
         Room::Frequency,
         Room::Frequency,
@@ -184,21 +212,7 @@ fn walk(p: Interpolators, phase_output: bool, n: u32) -> Found
         Room::Waveshape,
         modulation_room(phase_output),
     ];
-    rooms::first_outside(moving, kept, n)
-}
-
-// Drift where a step leaves its room, else the samples.
-fn drift_or_play(
-    state: State,
-    p: Interpolators,
-    sync: bool,
-    phase_output: bool,
-    out: &mut [f32],
-) -> Rendered
-    requires { ⌜ Fit (Started p) state (now out) ⌝ }
-    ensures { λ r. ⌜ left r (now (out .exit)) ≡ run (sampleAt sync «phase_output») (rooms «phase_output») (stepping «phase_output» p) state (now (out .entry)) ⌝ }
-{
-    match walk(p, phase_output, out.len() as u32) {
+    match rooms::first_outside(p, kept, out.len() as u32) {
         Found::Outside(i) => refuse(Answer::Drift(i), state),
         Found::Nowhere => play(state, p, sync, phase_output, out),
     }
@@ -207,21 +221,28 @@ fn drift_or_play(
 // Every sample of the buffer.
 fn play(
     state: State,
-    interpolators: Interpolators,
+    p: [ParameterInterpolator; 5],
     sync: bool,
     phase_output: bool,
     out: &mut [f32],
 ) -> Rendered
-    requires { ⌜ Playable (Started interpolators) (rooms «phase_output») state (stepping «phase_output» interpolators) (now out) ⌝ }
-    ensures { λ r. ⌜ left r (now (out .exit)) ≡ playedOf (sampleAt sync «phase_output») state (stepping «phase_output» interpolators) (now (out .entry)) ⌝ }
+    requires { ⌜ Playable Valid (rooms «phase_output») state (used (rooms «phase_output») p) (now out) ⌝ }
+    ensures { λ r. ⌜ left r (now (out .exit)) ≡ playedOf (sampleAt sync «phase_output») state (used (rooms «phase_output») p) (now (out .entry)) ⌝ }
 {
     let mut s = state;
-    let mut p = interpolators;
+    let mut moving = p;
     let mut counts = block::none();
     let mut i = 0;
     while i < out.len() {
-        p = steps::advance(p, phase_output);
-        let t = sample::sample(s, steps::values(p), sync, phase_output);
+        moving = rooms::advance(moving);
+        let steps = Steps {
+            master_frequency: moving[0].value,
+            slave_frequency: moving[1].value,
+            pw: moving[2].value,
+            waveshape: moving[3].value,
+            phase_modulation: steps::modulation(phase_output, moving[4].value, s.phase_modulation),
+        };
+        let t = sample::sample(s, steps, sync, phase_output);
         out[i] = t.sample;
         s = t.state;
         counts = block::sum(counts, t.counts);

@@ -1,5 +1,5 @@
 -- `variable_shape::render` meets its contract: each way out is the definition's. Assumes nothing.
-use Rattle.variable_shape.proofs.Calls.{valid-of, starts, rendered}
+use Rattle.variable_shape.proofs.Calls.{valid-of, rendered}
 use borrow.Author.Tests.{not-true, not-false, le-leb, lt-leb}
 use Rattle.block.specs.Checks.{here, later}
 use Rattle.block.proofs.Ways.{refused-by}
@@ -32,13 +32,7 @@ drift-or-play-requires c κs =
     let t = p .before .before in
     let a = t .before .before .before in
     let g = a .good .0 in
-    record {
-      short = t .before .if1 .left;
-      valid = record {
-        valid = valid-of _ (sym (t .state-in .ensures) ∙ not-false _ (p .before .if2 .left)) (subst T (sym (g .1 .1 .0 .1)) tt, (subst T (sym (g .1 .1 .1 .0 .1)) tt, tt));
-        start = starts (a .args .state) _ _ _ _ _ _ _ (b .start .ensures);
-      };
-    }
+    record { short = t .before .if1 .left; valid = valid-of _ (sym (t .state-in .ensures) ∙ not-false _ (p .before .if2 .left)) (subst T (sym (g .1 .1 .0 .1)) tt, (subst T (sym (g .1 .1 .1 .0 .1)) tt, tt)) }
 
 returns-4 : tie.Need-returns-4
 returns-4 c =
@@ -47,8 +41,8 @@ returns-4 c =
     let e = b .before in
     let p = e .before in
     let t = p .before .before in
-    rendered _ _ _ _ (le-leb _ _ (t .before .if1 .left), (sym (t .state-in .ensures) ∙ not-false _ (p .before .if2 .left), (sym (p .parameters-in .ensures) ∙ not-false _ (e .if3 .left), tt)))
-    _ (b .start .ensures) (d .drift-or-play .ensures)
+    rendered _ _ _ (le-leb _ _ (t .before .if1 .left), (sym (t .state-in .ensures) ∙ not-false _ (p .before .if2 .left), (sym (p .parameters-in .ensures) ∙ not-false _ (e .if3 .left), tt)))
+    (b .interpolators .ensures) (d .drift-or-play .ensures)
 
 pub render-spec : {M : Type 1} → statement M
 render-spec =
