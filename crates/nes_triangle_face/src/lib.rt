@@ -1,6 +1,6 @@
 // The NES triangle over lent arrays of 32-bit words, for the face.
 ghost use mathlib.Core.Path.{_≡_};
-ghost use Rattle.words.specs.Face.{wordsAfter};
+ghost use mathlib.Core.Bool.{cond};
 ghost use Rattle.nes_triangle_face.specs.Words.{stateOf, wordsOf, initWords, renderFace};
 use nes_triangle::State;
 
@@ -30,11 +30,11 @@ fn words_of(s: State) -> [u32; 5]
     ]
 }
 
-// Stores the words after an answered call of a block that is not empty, and else leaves them bit by bit, a NaN in them too.
-fn store(words: &mut [u32; 5], number: u32, samples: usize, after: [u32; 5])
-    ensures { λ r. ⌜ now (words .exit) ≡ wordsAfter number samples after (now (words .entry)) ⌝ }
+// Words that are not stored stay bit by bit, a NaN in them too.
+fn store(words: &mut [u32; 5], stored: bool, after: [u32; 5])
+    ensures { λ r. ⌜ now (words .exit) ≡ cond stored after (now (words .entry)) ⌝ }
 {
-    if (number == 0) & (samples > 0) {
+    if stored {
         *words = after;
     }
 }
@@ -65,5 +65,5 @@ pub fn render(
     let counts = r.counts;
     let state = r.state;
     *result = words::result_of(answer, counts);
-    store(words, block::number(answer), out.len(), words_of(state));
+    store(words, words::stores(answer, out.len()), words_of(state));
 }

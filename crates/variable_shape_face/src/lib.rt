@@ -3,7 +3,6 @@ ghost use mathlib.Core.Path.{_≡_};
 ghost use mathlib.Core.Bool.{cond};
 ghost use lib.Dec.{eqb};
 ghost use lib.ListN.{set};
-ghost use Rattle.words.specs.Face.{wordsAfter};
 ghost use Rattle.variable_shape_face.specs.Words.{stateOf, wordsOf, initWords, renderFace, setFace};
 use variable_shape::State;
 
@@ -43,11 +42,11 @@ fn words_of(s: State) -> [u32; 10]
     ]
 }
 
-// Stores the words after an answered call of a block that is not empty, and else leaves them bit by bit, a NaN in them too.
-fn store(words: &mut [u32; 10], number: u32, samples: usize, after: [u32; 10])
-    ensures { λ r. ⌜ now (words .exit) ≡ wordsAfter number samples after (now (words .entry)) ⌝ }
+// Words that are not stored stay bit by bit, a NaN in them too.
+fn store(words: &mut [u32; 10], stored: bool, after: [u32; 10])
+    ensures { λ r. ⌜ now (words .exit) ≡ cond stored after (now (words .entry)) ⌝ }
 {
-    if (number == 0) & (samples > 0) {
+    if stored {
         *words = after;
     }
 }
@@ -93,7 +92,7 @@ pub fn render(
     let counts = r.counts;
     let state = r.state;
     *result = words::result_of(answer, counts);
-    store(words, block::number(answer), out.len(), words_of(state));
+    store(words, words::stores(answer, out.len()), words_of(state));
 }
 
 // The first word alone is stored, so that the others stay bit by bit as they were, whatever they are.

@@ -12,14 +12,14 @@ use Rattle.block.specs.Checks.{Check, FirstFailing, here, later, _unless_}
 use Rattle.block.specs.Oscillator.{Oscillator, checksOf, callOf, Way, refused, drifted, answered}
 use Rattle.block.proofs.Ways.{not-done, refused-by, goes, way}
 use Rattle.block.proofs.Oscillators.{answered-or-as-given, empty-answered}
-use Rattle.words.specs.Face.{Face, resultOf, wordsAfter, faceOf, refusedFace, AnsweredOrKept, noState}
+use Rattle.words.specs.Face.{Face, resultOf, storesOf, faceOf, refusedFace, AnsweredOrKept, noState}
 
 -- c is what the oscillator's call left, d what its definition says, from the state that was read
-pub face-is : {S : Type 0} (wordsOf : S → List ℕ) (given : List ℕ) {c d : Call S} {number : ℕ} {after kept result : List ℕ}
-    → c ≡ d → number ≡ c .number → after ≡ wordsOf (c .state) → kept ≡ wordsAfter number (length (c .samples)) after given → result ≡ resultOf c
+pub face-is : {S : Type 0} (wordsOf : S → List ℕ) (given : List ℕ) {c d : Call S} {stored : Bool} {after kept result : List ℕ}
+    → c ≡ d → stored ≡ storesOf (c .number) (length (c .samples)) → after ≡ wordsOf (c .state) → kept ≡ cond stored after given → result ≡ resultOf c
     → record { words = kept; result = result; samples = c .samples } ≡ faceOf wordsOf given d
 unfolding faceOf
-face-is wordsOf given e at-number at-after at-kept at-result = rw (at-kept, at-number, at-after, at-result) (ap (faceOf wordsOf given) e)
+face-is wordsOf given e at-stored at-after at-kept at-result = rw (at-kept, at-stored, at-after, at-result) (ap (faceOf wordsOf given) e)
 
 module _ {S A : Type 0} (o : Oscillator S A) (wordsOf : S → List ℕ) (w : List ℕ) (s : S) (a : A) where
   -- a call that a check refuses: the words and the samples stay

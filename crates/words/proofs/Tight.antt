@@ -4,6 +4,7 @@ use Rattle.floats.proofs.Contracts.{Determines, coincide}
 use Rattle.words.proofs.result_of
 use Rattle.words.proofs.no_bool
 use Rattle.words.proofs.no_state
+use Rattle.words.proofs.stores
 use Rattle.words.proofs.signed
 use Rattle.words.proofs.unsigned
 
@@ -15,6 +16,9 @@ no-bool-tight κs a r q v w h k = (coincide h k, refl)
 
 pub no-state-tight : Determines no_state.ended no_state.Reads.Learnt
 no-state-tight κs a r q v w h k = (coincide h k, refl)
+
+pub stores-tight : Determines stores.ended stores.Reads.Learnt
+stores-tight κs a r q v w h k = (coincide h k, refl)
 
 pub signed-tight : Determines signed.ended signed.Reads.Learnt
 signed-tight κs a r q v w h k = (coincide h k, refl)

@@ -27,13 +27,14 @@ resultOf c = c .number ∷ c .index ∷ told (c .counts)
 abbrev pub resultWords : Answer → Counts → List ℕ
 resultWords answer counts = numberOf answer ∷ indexOf answer ∷ told counts
 
--- The state's words after a call that answered with this number over so many samples. The given ones stay, bit by bit, after a refusal and after an
--- empty block, 01: "nothing changed". Only an answered block that is not empty stores; a NaN among what it stores is 7fc00000.
-abbrev pub wordsAfter : ℕ → ℕ → List ℕ → List ℕ → List ℕ
-wordsAfter number samples stored given = cond (eqb number 0 && ltb 0 samples) stored given
+-- Whether a call that answered with this number over so many samples has its state stored. The given words stay, bit by bit, after a refusal and after
+-- an empty block, 01: "nothing changed". A NaN among what is stored is 7fc00000.
+abbrev pub storesOf : ℕ → ℕ → Bool
+storesOf number samples = eqb number 0 && ltb 0 samples
 
+-- what an oscillator's call leaves, put into words
 unfoldable pub faceOf : {S : Type 0} → (S → List ℕ) → List ℕ → Call S → Face
-faceOf wordsOf given c = record { words = wordsAfter (c .number) (length (c .samples)) (wordsOf (c .state)) given; result = resultOf c; samples = c .samples }
+faceOf wordsOf given c = record { words = cond (storesOf (c .number) (length (c .samples))) (wordsOf (c .state)) given; result = resultOf c; samples = c .samples }
 
 -- a refusal with this number and index: the words and the samples as they were, and nothing counted
 abbrev pub refusedFace : ℕ → ℕ → List ℕ → List Float → Face

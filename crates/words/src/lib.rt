@@ -1,8 +1,9 @@
 // What the faces share: the six words of a result, words that are no state, and whole numbers as words.
 ghost use mathlib.Core.Path.{_≡_};
 ghost use mathlib.Core.List.{_∷_};
+ghost use Rattle.block.specs.Answers.{numberOf};
 ghost use Rattle.block.specs.Counting.{noCounts, told};
-ghost use Rattle.words.specs.Face.{resultWords, noBool, badStateOf, signedOf, unsignedOf};
+ghost use Rattle.words.specs.Face.{resultWords, noBool, badStateOf, storesOf, signedOf, unsignedOf};
 
 // The six words of a result.
 pub fn result_of(answer: block::Answer, counts: block::Counts) -> [u32; 6]
@@ -34,6 +35,13 @@ pub fn no_state(samples: usize) -> [u32; 6]
     } else {
         [1, 0, 0, 0, 0, 0]
     }
+}
+
+// Whether a call's state is stored: a refusal and an empty block leave the words bit by bit, a NaN in them too.
+pub fn stores(answer: block::Answer, samples: usize) -> bool
+    ensures { λ r. ⌜ r ≡ storesOf (numberOf answer) samples ⌝ }
+{
+    (block::number(answer) == 0) & (samples > 0)
 }
 
 // A word as a whole number in two's complement. A cast has to keep the number, so negative ones are counted down from -1.

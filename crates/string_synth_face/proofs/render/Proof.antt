@@ -10,7 +10,7 @@ returns c =
     let q = n .before .before in
     let r = q .before .before .before .before .before in
     let s = r .before .before in
-    face-is _ _ (rw (s .state-of .ensures) at (r .render .ensures)) (n .number .ensures) (c .before .words-of .ensures) (c .store .ensures) (q .result-of .ensures)
+    face-is _ _ (rw (s .state-of .ensures) at (r .render .ensures)) (n .stores .ensures) (c .before .words-of .ensures) (c .store .ensures) (q .result-of .ensures)
 
 pub render-spec : {M : Type 1} → statement M
 render-spec =

@@ -16,7 +16,7 @@ returns-2 c =
     let r = q .before .before .before .before .before in
     let s = r .before .before in
     let i = s .before .before in
-    face-is _ _ (rw (s .state-of .ensures) at (r .render .ensures)) (n .number .ensures) (c .before .words-of .ensures) (c .store .ensures) (q .result-of .ensures)
+    face-is _ _ (rw (s .state-of .ensures) at (r .render .ensures)) (n .stores .ensures) (c .before .words-of .ensures) (c .store .ensures) (q .result-of .ensures)
     ∙ other _ _ _ (sym (i .before .no-bool .ensures) ∙ i .if1 .left)
 
 pub render-spec : {M : Type 1} → statement M

@@ -1,6 +1,0 @@
--- `nes_triangle_face::store` meets its contract. Assumes nothing.
-use Rattle.nes_triangle_face.proofs.store.Statement.{statement}
-use Rattle.nes_triangle_face.proofs.store.Tie as tie
-
-pub store-spec : {M : Type 1} → statement M
-store-spec = tie.close (tie.spec (λ c. rw (c .if1 .taken)) (λ c. rw (c .if1 .left)))
