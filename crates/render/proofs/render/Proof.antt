@@ -15,8 +15,9 @@ returns c =
     let tested = handed .before .before .before .before in
     let composed = tested .before .before in
     let a = composed .before .before .before .before .args in
-    handed .hand-over .ensures ∙ ap (λ (text : List ℕ). written (answerIf (tested .is-job-list .result)) text (a .out .now)) (read-back _ _ _ _ (composed .compose .ensures))
-    ∙ ap (λ (good : Bool). written (answerIf good) (textOf (a .list .now)) (a .out .now)) (tested .is-job-list .ensures)
+    let text = ap (λ (text : List ℕ). written (answerIf (tested .is-job-list .result)) text (a .out .now)) (read-back _ _ _ _ (composed .compose .ensures)) in
+    let answer = ap (λ (good : Bool). written (answerIf good) (textOf (a .list .now)) (a .out .now)) (tested .is-job-list .ensures) in
+    handed .hand-over .ensures ∙ text ∙ answer
 
 pub render-spec : {M : Type 1} → statement M
 render-spec =
