@@ -2,9 +2,9 @@
 use mathlib.Core.Path.{refl}
 use Rattle.floats.proofs.Contracts.{Determines, coincide}
 use Rattle.edges.proofs.start
-use Rattle.edges.proofs.rose
-use Rattle.edges.proofs.fell
-use Rattle.edges.proofs.fell_if
+use Rattle.edges.proofs.risen
+use Rattle.edges.proofs.fallen
+use Rattle.edges.proofs.wrapped
 use Rattle.edges.proofs.counts
 use Rattle.edges.proofs.at_reset
 use Rattle.edges.proofs.cut
@@ -15,14 +15,14 @@ use Rattle.edges.proofs.triangle.rise_time
 pub start-tight : Determines start.ended start.Reads.Learnt
 start-tight κs a r q v w h k = (coincide h k, refl)
 
-pub rose-tight : Determines rose.ended rose.Reads.Learnt
-rose-tight κs a r q v w h k = (coincide h k, refl)
+pub risen-tight : Determines risen.ended risen.Reads.Learnt
+risen-tight κs a r q v w h k = (coincide h k, refl)
 
-pub fell-tight : Determines fell.ended fell.Reads.Learnt
-fell-tight κs a r q v w h k = (coincide h k, refl)
+pub fallen-tight : Determines fallen.ended fallen.Reads.Learnt
+fallen-tight κs a r q v w h k = (coincide h k, refl)
 
-pub fell-if-tight : Determines fell_if.ended fell_if.Reads.Learnt
-fell-if-tight κs a r q v w h k = (coincide h k, refl)
+pub wrapped-tight : Determines wrapped.ended wrapped.Reads.Learnt
+wrapped-tight κs a r q v w h k = (coincide h k, refl)
 
 pub counts-tight : Determines counts.ended counts.Reads.Learnt
 counts-tight κs a r q v w h k = (coincide h k, refl)

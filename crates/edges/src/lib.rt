@@ -1,12 +1,13 @@
 // A sample in the making, for the oscillators that rise and fall: what it has crossed so far, and a hard sync reset of it.
 ghost use mathlib.Core.Path.{_≡_};
-ghost use Rattle.edges.specs.Counted.{startOf, rose as roseOf, fell as fellOf, fellIf, countsOf};
+ghost use Rattle.edges.specs.Counted.{startOf, risenOf, fallenOf, wrappedOf, countsOf};
 ghost use Rattle.edges.specs.Sync.{slaveAtReset, wrapOnce, transitionDuringReset, atResetOf, cutEdge};
 use block::Counts;
 
 pub mod triangle;
 
-// How often `high` has turned true and false by a crossing so far. Whoever makes an edge of another hands these on whole, or by `rose` or `fell`.
+// How often `high` has turned true and false by a crossing so far. Only the functions here make them: an oscillator hands them on in
+// its edge.
 pub struct Crossings {
     pub rises: u32,
     pub falls: u32,
@@ -34,41 +35,62 @@ pub fn start(phase: f32, high: bool, this_sample: f32) -> Edge
     }
 }
 
-// One rise more, modulo 2^32 so that any count may be given. A sample never rises more than twice.
-pub fn rose(c: Crossings) -> Crossings
-    ensures { λ r. ⌜ r ≡ roseOf c ⌝ }
+// e after a rise, with the samples that it makes. Modulo 2^32 any count may be given; a sample never rises more than twice.
+pub fn risen(e: Edge, this_sample: f32, next_sample: f32) -> Edge
+    ensures { λ r. ⌜ r ≡ risenOf «this_sample» «next_sample» e ⌝ }
 {
-    Crossings {
-        rises: std::num::wrapping_add_u32(c.rises, 1),
-        falls: c.falls,
+    Edge {
+        phase: e.phase,
+        high: true,
+        this_sample,
+        next_sample,
+        crossings: Crossings {
+            rises: std::num::wrapping_add_u32(e.crossings.rises, 1),
+            falls: e.crossings.falls,
+        },
     }
 }
 
-// One fall more, likewise.
-pub fn fell(c: Crossings) -> Crossings
-    ensures { λ r. ⌜ r ≡ fellOf c ⌝ }
+// e after a fall, whose phase has wrapped, likewise.
+pub fn fallen(e: Edge, phase: f32, this_sample: f32, next_sample: f32) -> Edge
+    ensures { λ r. ⌜ r ≡ fallenOf phase «this_sample» «next_sample» e ⌝ }
 {
-    Crossings {
-        rises: c.rises,
-        falls: std::num::wrapping_add_u32(c.falls, 1),
+    Edge {
+        phase,
+        high: false,
+        this_sample,
+        next_sample,
+        crossings: Crossings {
+            rises: e.crossings.rises,
+            falls: std::num::wrapping_add_u32(e.crossings.falls, 1),
+        },
     }
 }
 
-// For a wrap that asks nothing of the side: only what was high has fallen.
-pub fn fell_if(high: bool, c: Crossings) -> Crossings
-    ensures { λ r. ⌜ r ≡ fellIf high c ⌝ }
+// e after a wrap that asks nothing of the side: only what was high has fallen.
+pub fn wrapped(e: Edge, phase: f32, this_sample: f32, next_sample: f32) -> Edge
+    ensures { λ r. ⌜ r ≡ wrappedOf phase «this_sample» «next_sample» e ⌝ }
 {
-    if high { fell(c) } else { c }
+    Edge {
+        phase,
+        high: false,
+        this_sample,
+        next_sample,
+        crossings: Crossings {
+            rises: e.crossings.rises,
+            falls: std::num::wrapping_add_u32(e.crossings.falls, block::one_if(e.high)),
+        },
+    }
 }
 
 // The four counts of 01 at the end of a sample.
-pub fn counts(cycles: u32, c: Crossings, cuts: u32) -> Counts
-    ensures { λ r. ⌜ r ≡ countsOf cycles c cuts ⌝ }
+pub fn counts(cycles: u32, e: Edge, cuts: u32) -> Counts
+    ensures { λ r. ⌜ r ≡ countsOf cycles (e .crossings) cuts ⌝ }
 {
     Counts {
         cycles,
-        rises: c.rises,
-        falls: c.falls,
+        rises: e.crossings.rises,
+        falls: e.crossings.falls,
         cuts,
     }
 }
@@ -123,12 +145,8 @@ pub fn at_reset(
 pub fn cut(e: Edge, value: f32, time: f32) -> Edge
     ensures { λ r. ⌜ r ≡ cutEdge value time e ⌝ }
 {
-    let crossings = e.crossings;
-    Edge {
-        phase: e.phase,
-        high: e.high,
-        this_sample: e.this_sample - value * polyblep::this_blep_sample(time),
-        next_sample: e.next_sample - value * polyblep::next_blep_sample(time),
-        crossings,
-    }
+    let mut r = e;
+    r.this_sample = e.this_sample - value * polyblep::this_blep_sample(time);
+    r.next_sample = e.next_sample - value * polyblep::next_blep_sample(time);
+    r
 }

@@ -8,7 +8,7 @@ use Rattle.floats.specs.F32.{_⊕_, _⊖_, _⊗_, _⊘_, zero32, half32, one32,
 use Rattle.polyblep.specs.Polyblep.{thisBlepSample, nextBlepSample}
 use Rattle.edges.specs.declared.Edge.{Edge}
 use Rattle.block.specs.Counting.{oneIf}
-use Rattle.edges.specs.Counted.{startOf, rose, fell, countsOf}
+use Rattle.edges.specs.Counted.{startOf, risenOf, fallenOf, countsOf}
 use Rattle.edges.specs.CrossingLoop.{crossingLoop}
 use Rattle.edges.specs.Sync.{resetTime, resetOf}
 use Rattle.block.specs.Play.{Sample}
@@ -23,26 +23,20 @@ level phase = cond (lt phase half32) zero32 one32
 unfoldable pub riseOf : Float → Edge → Edge
 riseOf slaveFrequency e =
     let t = (e .phase ⊖ half32) ⊘ slaveFrequency in
-    record {
-      phase = e .phase;
-      high = true;
-      «this_sample» = e .«this_sample» ⊕ thisBlepSample t;
-      «next_sample» = e .«next_sample» ⊕ nextBlepSample t;
-      crossings = rose (e .crossings);
-    }
+    risenOf
+    (e .«this_sample» ⊕ thisBlepSample t)
+    (e .«next_sample» ⊕ nextBlepSample t)
+    e
 
 -- down through 1, where the phase wraps, lines 113 to 117
 unfoldable pub fallOf : Float → Edge → Edge
 fallOf slaveFrequency e =
     let phase' = e .phase ⊖ one32 in
     let t = phase' ⊘ slaveFrequency in
-    record {
-      phase = phase';
-      high = false;
-      «this_sample» = e .«this_sample» ⊖ thisBlepSample t;
-      «next_sample» = e .«next_sample» ⊖ nextBlepSample t;
-      crossings = fell (e .crossings);
-    }
+    fallenOf phase'
+    (e .«this_sample» ⊖ thisBlepSample t)
+    (e .«next_sample» ⊖ nextBlepSample t)
+    e
 
 -- the loop around the two crossings, lines 98 to 119
 abbrev pub crossed : Float → Edge → Edge

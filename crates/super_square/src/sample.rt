@@ -26,14 +26,9 @@ fn rise(e: Edge, slave_frequency: f32) -> Edge
     ensures { λ r. ⌜ r ≡ riseOf «slave_frequency» e ⌝ }
 {
     let t = (e.phase - 0.5) / slave_frequency;
-    let crossings = e.crossings;
-    Edge {
-        phase: e.phase,
-        high: true,
-        this_sample: e.this_sample + polyblep::this_blep_sample(t),
-        next_sample: e.next_sample + polyblep::next_blep_sample(t),
-        crossings: edges::rose(crossings),
-    }
+    let this_sample = e.this_sample + polyblep::this_blep_sample(t);
+    let next_sample = e.next_sample + polyblep::next_blep_sample(t);
+    edges::risen(e, this_sample, next_sample)
 }
 
 // Down through 1, where the phase wraps, lines 113 to 117: t is taken from the wrapped phase.
@@ -42,14 +37,9 @@ fn fall(e: Edge, slave_frequency: f32) -> Edge
 {
     let phase = e.phase - 1.0;
     let t = phase / slave_frequency;
-    let crossings = e.crossings;
-    Edge {
-        phase,
-        high: false,
-        this_sample: e.this_sample - polyblep::this_blep_sample(t),
-        next_sample: e.next_sample - polyblep::next_blep_sample(t),
-        crossings: edges::fell(crossings),
-    }
+    let this_sample = e.this_sample - polyblep::this_blep_sample(t);
+    let next_sample = e.next_sample - polyblep::next_blep_sample(t);
+    edges::fallen(e, phase, this_sample, next_sample)
 }
 
 // The source's loop around the two crossings, lines 98 to 119. It ends because a step is less than a cycle: a low slave may rise, fall and rise
@@ -121,11 +111,10 @@ fn after(
 fn finish(e: Edge, s: State, cycles: u32, cuts: u32) -> Sampled
     ensures { λ r. ⌜ r ≡ finished e s cycles cuts ⌝ }
 {
-    let crossings = e.crossings;
     Sampled {
         state: s,
         sample: 2.0 * e.this_sample - 1.0,
-        counts: edges::counts(cycles, crossings, cuts),
+        counts: edges::counts(cycles, e, cuts),
     }
 }
 

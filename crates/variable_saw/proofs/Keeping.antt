@@ -3,7 +3,7 @@
 use mathlib.Core.Path.{_≡_, refl}
 use mathlib.Core.Bool.{Bool, true, false, not, _&&_, cond}
 use mathlib.Core.List.{List, [], _∷_}
-use Prim.Native.Nat.{ℕ, _+_, _*_, _≤_}
+use Prim.Native.Nat.{ℕ, _+_, _*_, _%_, _^_, _≤_}
 use native.Mathlib.Omega.{arith}
 use borrow.Author.Tests.{not-true}
 use lib.ListN.{getD}
@@ -21,7 +21,6 @@ use Rattle.block.specs.Counting.{oneIf}
 use Rattle.block.proofs.Plays.{one-most, Keeps}
 use Rattle.rooms.proofs.RangeLaws.{frequency-step, step-frequency, width-unit}
 use Rattle.edges.specs.declared.Edge.{Edge}
-use Rattle.edges.specs.Counted.{noCrossings, fellIf}
 use Rattle.variable_saw.specs.declared.State.{State}
 use Rattle.variable_saw.specs.declared.sample.Wave.{Wave}
 use Rattle.variable_saw.specs.declared.sample.Sampled.{Sampled}
@@ -53,7 +52,7 @@ pub record Law (s : State) (frequency pw waveshape : Float) (a b : ℕ) (t : Sam
   pub balance : Balanced (s .high) (t .counts) (t .state .high)
 
 -- what a wrap counts: a fall where the phase was high
-one-fall : (high : Bool) → fellIf high noCrossings ≡ record { rises = 0; falls = oneIf high }
+one-fall : (high : Bool) → (0 + oneIf high) % 2 ^ 32 ≡ oneIf high
 one-fall true = refl
 one-fall false = refl
 
@@ -107,7 +106,7 @@ module _ (s : State) (frequency pw waveshape : Float) (h : Ready s frequency pw 
   wrap-law l = record {
     phase = turn-wraps turn-saw sum (passed-le one-at (sum .at) l);
     stored = stored 1 (wrapOf w frequency e);
-    rises = rw (one-fall (s .high)) (omega arith);
+    rises = omega arith;
     falls = rw (one-fall (s .high)) (one-most (s .high));
     cuts = refl;
     balance = rw (one-fall (s .high)) (omega arith);

@@ -8,7 +8,7 @@ use Rattle.floats.specs.F32.{_⊕_, _⊖_, _⊗_, _⊘_, f32, zero32, one32, tw
 use Rattle.polyblep.specs.Polyblep.{thisBlepSample, nextBlepSample, thisIntegratedBlepSample, nextIntegratedBlepSample}
 use Rattle.edges.specs.declared.Edge.{Edge}
 use Rattle.edges.specs.Triangle.{triangle, triangleStep, riseTime}
-use Rattle.edges.specs.Counted.{startOf, rose, fellIf, countsOf}
+use Rattle.edges.specs.Counted.{startOf, risenOf, wrappedOf, countsOf}
 use Rattle.block.specs.Play.{Sample}
 use Rattle.variable_saw.specs.declared.State.{State}
 use Rattle.variable_saw.specs.declared.sample.Wave.{Wave}
@@ -44,13 +44,10 @@ riseOf w frequency previousPw e =
     let step = triangleStep (w .«slope_up») (w .«slope_down») frequency (w .«triangle_amount») in
     let notch = (notchDepth ⊕ one32 ⊖ w .pw) ⊗ w .«notch_amount» in
     let t = riseTime (e .phase) (w .pw) previousPw frequency in
-    record {
-      phase = e .phase;
-      high = true;
-      «this_sample» = e .«this_sample» ⊕ notch ⊗ thisBlepSample t ⊖ step ⊗ thisIntegratedBlepSample t;
-      «next_sample» = e .«next_sample» ⊕ notch ⊗ nextBlepSample t ⊖ step ⊗ nextIntegratedBlepSample t;
-      crossings = rose (e .crossings);
-    }
+    risenOf
+    (e .«this_sample» ⊕ notch ⊗ thisBlepSample t ⊖ step ⊗ thisIntegratedBlepSample t)
+    (e .«next_sample» ⊕ notch ⊗ nextBlepSample t ⊖ step ⊗ nextIntegratedBlepSample t)
+    e
 
 -- down through 1, where the phase wraps, lines 86 to 94. 01 counts a fall where `high` turns false, and so only where it was true.
 unfoldable pub wrapOf : Wave → Float → Edge → Edge
@@ -59,13 +56,10 @@ wrapOf w frequency e =
     let step = triangleStep (w .«slope_up») (w .«slope_down») frequency (w .«triangle_amount») in
     let notch = (notchDepth ⊕ one32) ⊗ w .«notch_amount» in
     let t = phase' ⊘ frequency in
-    record {
-      phase = phase';
-      high = false;
-      «this_sample» = e .«this_sample» ⊖ notch ⊗ thisBlepSample t ⊕ step ⊗ thisIntegratedBlepSample t;
-      «next_sample» = e .«next_sample» ⊖ notch ⊗ nextBlepSample t ⊕ step ⊗ nextIntegratedBlepSample t;
-      crossings = fellIf (e .high) (e .crossings);
-    }
+    wrappedOf phase'
+    (e .«this_sample» ⊖ notch ⊗ thisBlepSample t ⊕ step ⊗ thisIntegratedBlepSample t)
+    (e .«next_sample» ⊖ notch ⊗ nextBlepSample t ⊕ step ⊗ nextIntegratedBlepSample t)
+    e
 
 -- the step, lines 63, 64 and 74: this sample starts with what the last one left for it
 abbrev pub edgeOf : State → Float → Edge

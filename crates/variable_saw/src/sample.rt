@@ -65,16 +65,11 @@ fn rise(e: Edge, w: Wave, frequency: f32, previous_pw: f32) -> Edge
     let step = triangle::triangle_step(w.slope_up, w.slope_down, frequency, w.triangle_amount);
     let notch = (VARIABLE_SAW_NOTCH_DEPTH + 1.0 - w.pw) * w.notch_amount;
     let t = triangle::rise_time(e.phase, w.pw, previous_pw, frequency);
-    let crossings = e.crossings;
-    Edge {
-        phase: e.phase,
-        high: true,
-        this_sample: e.this_sample + notch * polyblep::this_blep_sample(t)
-            - step * polyblep::this_integrated_blep_sample(t),
-        next_sample: e.next_sample + notch * polyblep::next_blep_sample(t)
-            - step * polyblep::next_integrated_blep_sample(t),
-        crossings: edges::rose(crossings),
-    }
+    let this_sample = e.this_sample + notch * polyblep::this_blep_sample(t)
+        - step * polyblep::this_integrated_blep_sample(t);
+    let next_sample = e.next_sample + notch * polyblep::next_blep_sample(t)
+        - step * polyblep::next_integrated_blep_sample(t);
+    edges::risen(e, this_sample, next_sample)
 }
 
 // Down through 1, where the phase wraps, lines 86 to 94. The test lets a low phase in where the width is above 1 or no number, as none in its room is: that
@@ -86,16 +81,11 @@ fn wrap(e: Edge, w: Wave, frequency: f32) -> Edge
     let step = triangle::triangle_step(w.slope_up, w.slope_down, frequency, w.triangle_amount);
     let notch = (VARIABLE_SAW_NOTCH_DEPTH + 1.0) * w.notch_amount;
     let t = phase / frequency;
-    let crossings = e.crossings;
-    Edge {
-        phase,
-        high: false,
-        this_sample: e.this_sample - notch * polyblep::this_blep_sample(t)
-            + step * polyblep::this_integrated_blep_sample(t),
-        next_sample: e.next_sample - notch * polyblep::next_blep_sample(t)
-            + step * polyblep::next_integrated_blep_sample(t),
-        crossings: edges::fell_if(e.high, crossings),
-    }
+    let this_sample = e.this_sample - notch * polyblep::this_blep_sample(t)
+        + step * polyblep::this_integrated_blep_sample(t);
+    let next_sample = e.next_sample - notch * polyblep::next_blep_sample(t)
+        + step * polyblep::next_integrated_blep_sample(t);
+    edges::wrapped(e, phase, this_sample, next_sample)
 }
 
 // The step, lines 63, 64 and 74.
@@ -109,7 +99,6 @@ fn edge(s: State, frequency: f32) -> Edge
 fn finish(e: Edge, w: Wave, frequency: f32, cycles: u32) -> Sampled
     ensures { λ r. ⌜ r ≡ finished w frequency cycles e ⌝ }
 {
-    let crossings = e.crossings;
     Sampled {
         state: State {
             phase: e.phase,
@@ -121,7 +110,7 @@ fn finish(e: Edge, w: Wave, frequency: f32, cycles: u32) -> Sampled
             waveshape: w.triangle_amount,
         },
         sample: (2.0 * e.this_sample - 1.0) / (1.0 + VARIABLE_SAW_NOTCH_DEPTH),
-        counts: edges::counts(cycles, crossings, 0),
+        counts: edges::counts(cycles, e, 0),
     }
 }
 

@@ -10,7 +10,7 @@ use Rattle.polyblep.specs.Polyblep.{thisBlepSample, nextBlepSample, thisIntegra
 use Rattle.edges.specs.declared.Edge.{Edge}
 use Rattle.edges.specs.Triangle.{triangleStep, riseTime}
 use Rattle.block.specs.Counting.{oneIf}
-use Rattle.edges.specs.Counted.{startOf, rose, fell, countsOf}
+use Rattle.edges.specs.Counted.{startOf, risenOf, fallenOf, countsOf}
 use Rattle.edges.specs.CrossingLoop.{crossingLoop}
 use Rattle.edges.specs.Sync.{resetTime, resetOf}
 use Rattle.block.specs.Play.{Sample}
@@ -25,13 +25,10 @@ unfoldable pub riseOf : Waveform → Edge → Edge
 riseOf w e =
     let t = riseTime (e .phase) (w .pw) (w .«previous_pw») (w .«slave_frequency») in
     let step = triangleStep (w .«slope_up») (w .«slope_down») (w .«slave_frequency») (w .«triangle_amount») in
-    record {
-      phase = e .phase;
-      high = true;
-      «this_sample» = e .«this_sample» ⊕ w .«square_amount» ⊗ thisBlepSample t ⊖ step ⊗ thisIntegratedBlepSample t;
-      «next_sample» = e .«next_sample» ⊕ w .«square_amount» ⊗ nextBlepSample t ⊖ step ⊗ nextIntegratedBlepSample t;
-      crossings = rose (e .crossings);
-    }
+    risenOf
+    (e .«this_sample» ⊕ w .«square_amount» ⊗ thisBlepSample t ⊖ step ⊗ thisIntegratedBlepSample t)
+    (e .«next_sample» ⊕ w .«square_amount» ⊗ nextBlepSample t ⊖ step ⊗ nextIntegratedBlepSample t)
+    e
 
 -- down through 1, where the phase wraps, lines 164 to 173
 unfoldable pub fallOf : Waveform → Edge → Edge
@@ -39,13 +36,10 @@ fallOf w e =
     let phase' = e .phase ⊖ one32 in
     let t = phase' ⊘ w .«slave_frequency» in
     let step = triangleStep (w .«slope_up») (w .«slope_down») (w .«slave_frequency») (w .«triangle_amount») in
-    record {
-      phase = phase';
-      high = false;
-      «this_sample» = e .«this_sample» ⊖ (one32 ⊖ w .«triangle_amount») ⊗ thisBlepSample t ⊕ step ⊗ thisIntegratedBlepSample t;
-      «next_sample» = e .«next_sample» ⊖ (one32 ⊖ w .«triangle_amount») ⊗ nextBlepSample t ⊕ step ⊗ nextIntegratedBlepSample t;
-      crossings = fell (e .crossings);
-    }
+    fallenOf phase'
+    (e .«this_sample» ⊖ (one32 ⊖ w .«triangle_amount») ⊗ thisBlepSample t ⊕ step ⊗ thisIntegratedBlepSample t)
+    (e .«next_sample» ⊖ (one32 ⊖ w .«triangle_amount») ⊗ nextBlepSample t ⊕ step ⊗ nextIntegratedBlepSample t)
+    e
 
 -- the loop around the two crossings, lines 144 to 175
 abbrev pub crossed : Waveform → Edge → Edge

@@ -30,16 +30,11 @@ fn rise(e: Edge, w: Waveform) -> Edge
         w.slave_frequency,
         w.triangle_amount,
     );
-    let crossings = e.crossings;
-    Edge {
-        phase: e.phase,
-        high: true,
-        this_sample: e.this_sample + w.square_amount * polyblep::this_blep_sample(t)
-            - step * polyblep::this_integrated_blep_sample(t),
-        next_sample: e.next_sample + w.square_amount * polyblep::next_blep_sample(t)
-            - step * polyblep::next_integrated_blep_sample(t),
-        crossings: edges::rose(crossings),
-    }
+    let this_sample = e.this_sample + w.square_amount * polyblep::this_blep_sample(t)
+        - step * polyblep::this_integrated_blep_sample(t);
+    let next_sample = e.next_sample + w.square_amount * polyblep::next_blep_sample(t)
+        - step * polyblep::next_integrated_blep_sample(t);
+    edges::risen(e, this_sample, next_sample)
 }
 
 // Down through 1, where the phase wraps, lines 164 to 173: t is taken from the wrapped phase, and does not know of the width.
@@ -54,16 +49,11 @@ fn fall(e: Edge, w: Waveform) -> Edge
         w.slave_frequency,
         w.triangle_amount,
     );
-    let crossings = e.crossings;
-    Edge {
-        phase,
-        high: false,
-        this_sample: e.this_sample - (1.0 - w.triangle_amount) * polyblep::this_blep_sample(t)
-            + step * polyblep::this_integrated_blep_sample(t),
-        next_sample: e.next_sample - (1.0 - w.triangle_amount) * polyblep::next_blep_sample(t)
-            + step * polyblep::next_integrated_blep_sample(t),
-        crossings: edges::fell(crossings),
-    }
+    let this_sample = e.this_sample - (1.0 - w.triangle_amount) * polyblep::this_blep_sample(t)
+        + step * polyblep::this_integrated_blep_sample(t);
+    let next_sample = e.next_sample - (1.0 - w.triangle_amount) * polyblep::next_blep_sample(t)
+        + step * polyblep::next_integrated_blep_sample(t);
+    edges::fallen(e, phase, this_sample, next_sample)
 }
 
 // The source's loop around the two crossings, lines 144 to 175. It ends because a step is less than a cycle: a low slave may rise, fall and rise
@@ -140,7 +130,6 @@ fn after(
 fn finish(sync: bool, phase_output: bool, e: Edge, s: State, cycles: u32, cuts: u32) -> Sampled
     ensures { λ r. ⌜ r ≡ finished sync «phase_output» e s cycles cuts ⌝ }
 {
-    let crossings = e.crossings;
     Sampled {
         state: s,
         sample: output::output(
@@ -151,7 +140,7 @@ fn finish(sync: bool, phase_output: bool, e: Edge, s: State, cycles: u32, cuts: 
             s.phase_modulation,
             e.this_sample,
         ),
-        counts: edges::counts(cycles, crossings, cuts),
+        counts: edges::counts(cycles, e, cuts),
     }
 }
 
@@ -188,14 +177,13 @@ fn plain_sample(
 {
     let w = waveform::at(steps, s.previous_pw);
     let e = cross(edge(s, steps.slave_frequency), w);
-    let crossings = e.crossings;
     let t = after(w, e, master_phase, e.phase, e.high, steps);
     finish(
         sync,
         phase_output,
         e,
         t,
-        free_cycles(sync, crossings.falls),
+        free_cycles(sync, e.crossings.falls),
         0,
     )
 }

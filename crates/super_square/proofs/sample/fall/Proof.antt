@@ -7,7 +7,7 @@ use Rattle.super_square.proofs.sample.fall.Tie as tie
 
 returns : tie.Need-returns
 unfolding fallOf
-returns c = let n = c .before .before in rw (n .before .before .this-blep-sample .ensures, n .next-blep-sample .ensures, c .fell .ensures) refl
+returns c = let n = c .before .before in rw (c .fallen .ensures, n .before .before .this-blep-sample .ensures, n .next-blep-sample .ensures) refl
 
 pub fall-spec : {M : Type 1} → statement M
 fall-spec = tie.close (tie.spec (λ c κs. search needs) (λ c κs. search needs) (λ c κs. search needs) returns)

@@ -7,7 +7,7 @@ use Rattle.super_square.proofs.sample.rise.Tie as tie
 
 returns : tie.Need-returns
 unfolding riseOf
-returns c = let n = c .before .before in rw (n .before .before .this-blep-sample .ensures, n .next-blep-sample .ensures, c .rose .ensures) refl
+returns c = let n = c .before .before in rw (c .risen .ensures, n .before .before .this-blep-sample .ensures, n .next-blep-sample .ensures) refl
 
 pub rise-spec : {M : Type 1} → statement M
 rise-spec = tie.close (tie.spec (λ c κs. search needs) (λ c κs. search needs) (λ c κs. search needs) returns)

@@ -12,10 +12,10 @@ returns c =
     let n = e .before .before in
     let i = n .before in
     let b = i .before .before in
-    let t = b .before .before in
+    let t = b .before in
     let s = t .before .before .before in
     let p = s .before .args in
-    rw (b .this-blep-sample .ensures, i .this-integrated-blep-sample .ensures, n .next-blep-sample .ensures, e .next-integrated-blep-sample .ensures, c .rose .ensures, t .rise-time .ensures, s .triangle-step .ensures) (refl {a = riseOf (p .w) (p .frequency) (p .previous-pw) (p .e)})
+    rw (c .risen .ensures, b .this-blep-sample .ensures, i .this-integrated-blep-sample .ensures, n .next-blep-sample .ensures, e .next-integrated-blep-sample .ensures, t .rise-time .ensures, s .triangle-step .ensures) (refl {a = riseOf (p .w) (p .frequency) (p .previous-pw) (p .e)})
 
 pub rise-spec : {M : Type 1} → statement M
 rise-spec =

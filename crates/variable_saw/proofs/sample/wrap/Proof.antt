@@ -12,9 +12,9 @@ returns c =
     let n = e .before .before in
     let i = n .before in
     let b = i .before .before in
-    let s = b .before .before .before in
+    let s = b .before .before in
     let p = s .before .before .args in
-    rw (b .this-blep-sample .ensures, i .this-integrated-blep-sample .ensures, n .next-blep-sample .ensures, e .next-integrated-blep-sample .ensures, s .triangle-step .ensures, c .fell-if .ensures) (refl {a = wrapOf (p .w) (p .frequency) (p .e)})
+    rw (c .wrapped .ensures, b .this-blep-sample .ensures, i .this-integrated-blep-sample .ensures, n .next-blep-sample .ensures, e .next-integrated-blep-sample .ensures, s .triangle-step .ensures) (refl {a = wrapOf (p .w) (p .frequency) (p .e)})
 
 pub wrap-spec : {M : Type 1} → statement M
 wrap-spec =

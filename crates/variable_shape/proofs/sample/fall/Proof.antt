@@ -11,9 +11,9 @@ returns c =
     let n = c .before .before .before in
     let t = n .before .before in
     let b = t .before .before in
-    let s = b .before .before .before in
+    let s = b .before .before in
     let p = s .before .before .before .args in
-    rw (s .triangle-step .ensures, b .this-blep-sample .ensures, t .this-integrated-blep-sample .ensures, n .next-blep-sample .ensures, c .before .next-integrated-blep-sample .ensures, c .fell .ensures) (refl {a = fallOf (p .w) (p .e)})
+    rw (c .fallen .ensures, s .triangle-step .ensures, b .this-blep-sample .ensures, t .this-integrated-blep-sample .ensures, n .next-blep-sample .ensures, c .before .next-integrated-blep-sample .ensures) (refl {a = fallOf (p .w) (p .e)})
 
 pub fall-spec : {M : Type 1} → statement M
 fall-spec =

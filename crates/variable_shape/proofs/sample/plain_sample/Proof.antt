@@ -12,7 +12,7 @@ cross-requires c κs = width-crossable (c .before .before .args .s) _ _ _ _ (c .
 returns : tie.Need-returns
 unfolding plainSample
 returns c =
-    let x = c .before .before .before .before in
+    let x = c .before .before .before in
     let p = x .before .before .before .args in
     rw (c .finish .ensures, c .before .free-cycles .ensures, c .before .before .after .ensures, x .cross .ensures, x .before .edge .ensures, x .before .before .at .ensures)
     (refl {a = plainSample (p .sync) (p .phase-output) (p .s) (p .steps) (p .master-phase)})

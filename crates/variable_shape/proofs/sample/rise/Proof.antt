@@ -11,9 +11,9 @@ returns c =
     let n = c .before .before .before .before in
     let t = n .before in
     let b = t .before .before .before in
-    let s = b .before .before in
+    let s = b .before in
     let p = s .before .before .args in
-    rw (s .triangle-step .ensures, b .this-blep-sample .ensures, t .this-integrated-blep-sample .ensures, n .next-blep-sample .ensures, c .before .next-integrated-blep-sample .ensures, c .rose .ensures, s .before .rise-time .ensures) (refl {a = riseOf (p .w) (p .e)})
+    rw (c .risen .ensures, s .triangle-step .ensures, b .this-blep-sample .ensures, t .this-integrated-blep-sample .ensures, n .next-blep-sample .ensures, c .before .next-integrated-blep-sample .ensures, s .before .rise-time .ensures) (refl {a = riseOf (p .w) (p .e)})
 
 pub rise-spec : {M : Type 1} → statement M
 rise-spec =
