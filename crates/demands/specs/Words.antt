@@ -1,5 +1,5 @@
--- What is promised over words, to who calls from another language: what such a call leaves is the oscillator's own call put into words (`renderFace` in specs/Words.antt of each face, which is
--- the contract of each exported function), and of that: which words are refused as a bad state, and when the words stay. Assumes nothing.
+-- What is promised over words, to a caller in another language. What such a call leaves is `renderFace` in specs/Words.antt of each face, the contract of each exported function: the
+-- oscillator's own call, put into words. Here, of that: which words are refused as a bad state, and when words stay. Assumes nothing.
 use mathlib.Core.Path.{_≡_}
 use mathlib.Core.List.{List, []}
 use Prim.Native.Nat.{ℕ, _≤_, _<_}

@@ -35,6 +35,7 @@ module _ {S A : Type 0} (o : Oscillator S A) (wordsOf : S → List ℕ) (w : Lis
       go true h = refused-face {k = 3 unless b} (later h (rw same (here bad))) refl
       go false h = refused-face (here h) refl
 
+  -- answered, or the words and the samples stay
   pub answered-or-kept : AnsweredOrKept w (o .buffer a) (faceOf wordsOf w (callOf o s a))
   unfolding faceOf
   answered-or-kept = go (eqb (callOf o s a .number) 0) refl

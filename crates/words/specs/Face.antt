@@ -52,7 +52,7 @@ badStateOf samples = cond (leb samples 4096) 3 1
 abbrev pub noBool : ℕ → Bool
 noBool word = ltb 1 word
 
--- what a call leaves of words that are no state, since one of them stands for no bool: they are refused as a bad state is
+-- refused as a bad state is: so are words that are no state, since one of them stands for no bool
 abbrev pub noState : List ℕ → List Float → Face
 noState given xs = refusedFace (badStateOf (length xs)) 0 given xs
 

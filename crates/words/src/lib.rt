@@ -1,11 +1,11 @@
-// What the faces share: the six words of a result, words that are no state, and whole numbers as words.
+// What the faces share: the six words of a result, words that are no state, when a state is stored, and whole numbers as words.
 ghost use mathlib.Core.Path.{_≡_};
 ghost use mathlib.Core.List.{_∷_};
 ghost use Rattle.block.specs.Answers.{numberOf};
 ghost use Rattle.block.specs.Counting.{noCounts, told};
 ghost use Rattle.words.specs.Face.{resultWords, noBool, badStateOf, storesOf, signedOf, unsignedOf};
 
-// The six words of a result.
+// The six words of a result: the answer, Drift's index or 0, and the counts in the order in which they are told.
 pub fn result_of(answer: block::Answer, counts: block::Counts) -> [u32; 6]
     ensures { λ r. ⌜ r ≡ resultWords answer counts ⌝ }
 {
@@ -55,7 +55,7 @@ pub fn signed(word: u32) -> i32
     }
 }
 
-// And a whole number as a word.
+// And a whole number as a word: here too negative ones are counted, from the highest word down.
 pub fn unsigned(number: i32) -> u32
     ensures { λ r. ⌜ r ≡ unsignedOf number ⌝ }
 {
