@@ -1,6 +1,7 @@
 -- The laws of the variable shape.
 pub mod Edges
 pub mod Keeping
+pub mod Places
 pub mod Calls
 pub mod Phase
 pub mod Tight

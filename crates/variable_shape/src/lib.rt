@@ -240,7 +240,11 @@ fn play(
             slave_frequency: moving[1].value,
             pw: moving[2].value,
             waveshape: moving[3].value,
-            phase_modulation: steps::modulation(phase_output, moving[4].value, s.phase_modulation),
+            phase_modulation: steps::modulation(
+                phase_output,
+                moving[4].value,
+                state.phase_modulation,
+            ),
         };
         let t = sample::sample(s, steps, sync, phase_output);
         out[i] = t.sample;

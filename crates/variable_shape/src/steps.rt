@@ -10,9 +10,9 @@ pub struct Steps {
     pub phase_modulation: f32,
 }
 
-// The source steps phase modulation only where it puts the phase out (variable_shape_oscillator.rs, line 204): else the state's own stays.
-pub(crate) fn modulation(phase_output: bool, step: f32, own: f32) -> f32
-    ensures { λ r. ⌜ r ≡ cond «phase_output» step own ⌝ }
+// The source steps phase modulation only where it puts the phase out (variable_shape_oscillator.rs, line 204): else it stays what it was at the block's start.
+pub(crate) fn modulation(phase_output: bool, step: f32, before: f32) -> f32
+    ensures { λ r. ⌜ r ≡ cond «phase_output» step before ⌝ }
 {
-    if phase_output { step } else { own }
+    if phase_output { step } else { before }
 }
