@@ -1,4 +1,4 @@
-// The figures of the request that are run, each with its name: how long a block may be, how long a registration is, how high a string goes, and where the saw drifts.
+// Test program: the figures of the request that are run, each with its name: how long a block may be, how long a registration is, how high a string goes, and where the saw drifts.
 ghost use Prim.Native.Nat.{_≤_};
 use block::Answer;
 use libc::STDOUT_FILENO;
@@ -38,7 +38,7 @@ fn main() {
     );
     let drift = drifting_saw();
     say(b"variable saw, Drift: ", block::number(drift));
-    say_index(b"variable saw, index of Drift: ", block::index(drift));
+    say(b"variable saw, index of Drift: ", block::index(drift));
 }
 
 // The answer's number to a block of n samples from the initial state, at the highest pitch that each plays unclipped.
@@ -106,25 +106,9 @@ fn drifting_saw() -> Answer {
 }
 
 fn say(what: &[u8], number: u32) {
-    io::write_all(STDOUT_FILENO, what);
-    let line = [digit(number), b'\n'];
-    io::write_all(STDOUT_FILENO, &line);
-}
-
-// Four digits, which hold the index of every sample that a call answers.
-fn say_index(what: &[u8], number: u32) {
-    io::write_all(STDOUT_FILENO, what);
-    let line = [
-        digit(number / 1000),
-        digit(number / 100),
-        digit(number / 10),
-        digit(number),
-        b'\n',
-    ];
-    io::write_all(STDOUT_FILENO, &line);
-}
-
-// The last digit.
-fn digit(number: u32) -> u8 {
-    (48 + number % 10) as u8
+    let mut space = [0u8; 64];
+    let text: &mut [u8] = &mut space;
+    let at = testing::put(text, 0, what);
+    let end = testing::put_number(text, at, number, b'\n');
+    io::write_all(STDOUT_FILENO, testing::front(text, end));
 }

@@ -1,224 +1,118 @@
 // The call of each kind, with its fields of the record, and the line of what it left.
-ghost use Prim.Native.Nat.{_+_, _≤_};
+ghost use Prim.Native.Nat.{_≤_};
 use crate::record;
-use crate::samples;
-use crate::text;
 
 pub(crate) fn put_variable_shape(
-    input: &[u8; 32768],
-    from: usize,
+    text: &mut [u8],
+    record: &[u8; 128],
+    words: &mut [u32; 10],
     out: &mut [f32],
-    text: &mut [u8; 45056],
-    at: usize,
-) -> usize
-    requires { ⌜ (from + 128 ≤ 32768) × (at + 176 ≤ 45056) ⌝ }
-    ensures { λ end. ⌜ end ≤ at + 176 ⌝ }
-{
-    let mut words = [0u32; 10];
-    record::read_words(input, from + 64, &mut words);
-    let master_frequency = record::float_at(input, from + 12);
-    let frequency = record::float_at(input, from + 8);
-    let pw = record::float_at(input, from + 16);
-    let waveshape = record::float_at(input, from + 20);
-    let phase_modulation = record::float_at(input, from + 24);
-    let sync = record::sync_at(input, from + 1);
-    let phase_output = record::phase_output_at(input, from + 1);
+) -> usize {
+    record::read_state(record, words);
     let mut result = [0u32; 6];
     navuloqu::variable_shape::navuloqu_variable_shape_render(
-        &mut words,
-        master_frequency,
-        frequency,
-        pw,
-        waveshape,
-        phase_modulation,
-        sync,
-        phase_output,
+        words,
+        record::float_at(record, 12),
+        record::float_at(record, 8),
+        record::float_at(record, 16),
+        record::float_at(record, 20),
+        record::float_at(record, 24),
+        record::sync(record),
+        record::phase_output(record),
         out,
         &mut result,
     );
-    let sum = samples::checksum(out);
-    put_ten(text, at, &result, &words, sum)
+    put_outcome(text, &result, words, out)
 }
 
 pub(crate) fn put_variable_saw(
-    input: &[u8; 32768],
-    from: usize,
+    text: &mut [u8],
+    record: &[u8; 128],
+    words: &mut [u32; 7],
     out: &mut [f32],
-    text: &mut [u8; 45056],
-    at: usize,
-) -> usize
-    requires { ⌜ (from + 128 ≤ 32768) × (at + 176 ≤ 45056) ⌝ }
-    ensures { λ end. ⌜ end ≤ at + 176 ⌝ }
-{
-    let mut words = [0u32; 7];
-    record::read_words(input, from + 64, &mut words);
-    let frequency = record::float_at(input, from + 8);
-    let pw = record::float_at(input, from + 16);
-    let waveshape = record::float_at(input, from + 20);
+) -> usize {
+    record::read_state(record, words);
     let mut result = [0u32; 6];
     navuloqu::variable_saw::navuloqu_variable_saw_render(
-        &mut words,
-        frequency,
-        pw,
-        waveshape,
+        words,
+        record::float_at(record, 8),
+        record::float_at(record, 16),
+        record::float_at(record, 20),
         out,
         &mut result,
     );
-    let sum = samples::checksum(out);
-    put_seven(text, at, &result, &words, sum)
+    put_outcome(text, &result, words, out)
 }
 
 pub(crate) fn put_super_square(
-    input: &[u8; 32768],
-    from: usize,
+    text: &mut [u8],
+    record: &[u8; 128],
+    words: &mut [u32; 6],
     out: &mut [f32],
-    text: &mut [u8; 45056],
-    at: usize,
-) -> usize
-    requires { ⌜ (from + 128 ≤ 32768) × (at + 176 ≤ 45056) ⌝ }
-    ensures { λ end. ⌜ end ≤ at + 176 ⌝ }
-{
-    let mut words = [0u32; 6];
-    record::read_words(input, from + 64, &mut words);
-    let frequency = record::float_at(input, from + 8);
-    let shape = record::float_at(input, from + 16);
+) -> usize {
+    record::read_state(record, words);
     let mut result = [0u32; 6];
     navuloqu::super_square::navuloqu_super_square_render(
-        &mut words,
-        frequency,
-        shape,
+        words,
+        record::float_at(record, 8),
+        record::float_at(record, 16),
         out,
         &mut result,
     );
-    let sum = samples::checksum(out);
-    put_six(text, at, &result, &words, sum)
+    put_outcome(text, &result, words, out)
 }
 
 pub(crate) fn put_nes_triangle(
-    input: &[u8; 32768],
-    from: usize,
+    text: &mut [u8],
+    record: &[u8; 128],
+    words: &mut [u32; 5],
     out: &mut [f32],
-    text: &mut [u8; 45056],
-    at: usize,
-) -> usize
-    requires { ⌜ (from + 128 ≤ 32768) × (at + 176 ≤ 45056) ⌝ }
-    ensures { λ end. ⌜ end ≤ at + 176 ⌝ }
-{
-    let mut words = [0u32; 5];
-    record::read_words(input, from + 64, &mut words);
-    let frequency = record::float_at(input, from + 8);
-    let num_bits = record::word_at(input, from + 4);
+) -> usize {
+    record::read_state(record, words);
     let mut result = [0u32; 6];
     navuloqu::nes_triangle::navuloqu_nes_triangle_render(
-        &mut words,
-        frequency,
-        num_bits,
+        words,
+        record::float_at(record, 8),
+        testing::word_at(record, 4),
         out,
         &mut result,
     );
-    let sum = samples::checksum(out);
-    put_five(text, at, &result, &words, sum)
+    put_outcome(text, &result, words, out)
 }
 
 pub(crate) fn put_string_synth(
-    input: &[u8; 32768],
-    from: usize,
+    text: &mut [u8],
+    record: &[u8; 128],
+    words: &mut [u32; 8],
     out: &mut [f32],
-    text: &mut [u8; 45056],
-    at: usize,
-) -> usize
-    requires { ⌜ (from + 128 ≤ 32768) × (at + 176 ≤ 45056) ⌝ }
-    ensures { λ end. ⌜ end ≤ at + 176 ⌝ }
-{
-    let mut words = [0u32; 8];
-    record::read_words(input, from + 64, &mut words);
-    let frequency = record::float_at(input, from + 8);
-    let registration = record::registration_at(input, from + 28);
-    let entries = record::entries_at(input, from + 56);
-    let gain = record::float_at(input, from + 12);
+) -> usize {
+    record::read_state(record, words);
+    let registration = record::registration(record);
+    let entries = record::entries(record);
     let mut result = [0u32; 6];
     navuloqu::string_synth::navuloqu_string_synth_render(
-        &mut words,
-        frequency,
-        handed_over(&registration, entries),
-        gain,
+        words,
+        record::float_at(record, 8),
+        &registration[0..entries],
+        record::float_at(record, 12),
         out,
         &mut result,
     );
-    let sum = samples::checksum(out);
-    put_eight(text, at, &result, &words, sum)
+    put_outcome(text, &result, words, out)
 }
 
-// The first entries of a registration.
-fn handed_over(registration: &[f32; 8], entries: usize) -> &[f32]
-    requires { ⌜ entries ≤ 8 ⌝ }
-{
-    let whole = &registration[..];
-    &whole[0..entries]
+// What a call left: the result in decimal, then the state's words and the checksum in hexadecimal.
+fn put_outcome(text: &mut [u8], result: &[u32; 6], words: &[u32], out: &[f32]) -> usize {
+    let numbers = put_result(text, result);
+    let state = testing::put_words(text, numbers, words, b' ');
+    testing::put_word(text, state, testing::checksum(out), b'\n')
 }
 
-// The line, for each length of a state: of a lent array that length needs no proof.
-fn put_five(
-    text: &mut [u8; 45056],
-    at: usize,
-    result: &[u32; 6],
-    words: &[u32; 5],
-    sum: u32,
-) -> usize
-    requires { ⌜ at + 176 ≤ 45056 ⌝ }
-    ensures { λ end. ⌜ end ≤ at + 176 ⌝ }
-{
-    text::put_outcome(text, at, result, words, sum)
-}
-
-fn put_six(
-    text: &mut [u8; 45056],
-    at: usize,
-    result: &[u32; 6],
-    words: &[u32; 6],
-    sum: u32,
-) -> usize
-    requires { ⌜ at + 176 ≤ 45056 ⌝ }
-    ensures { λ end. ⌜ end ≤ at + 176 ⌝ }
-{
-    text::put_outcome(text, at, result, words, sum)
-}
-
-fn put_seven(
-    text: &mut [u8; 45056],
-    at: usize,
-    result: &[u32; 6],
-    words: &[u32; 7],
-    sum: u32,
-) -> usize
-    requires { ⌜ at + 176 ≤ 45056 ⌝ }
-    ensures { λ end. ⌜ end ≤ at + 176 ⌝ }
-{
-    text::put_outcome(text, at, result, words, sum)
-}
-
-fn put_eight(
-    text: &mut [u8; 45056],
-    at: usize,
-    result: &[u32; 6],
-    words: &[u32; 8],
-    sum: u32,
-) -> usize
-    requires { ⌜ at + 176 ≤ 45056 ⌝ }
-    ensures { λ end. ⌜ end ≤ at + 176 ⌝ }
-{
-    text::put_outcome(text, at, result, words, sum)
-}
-
-fn put_ten(
-    text: &mut [u8; 45056],
-    at: usize,
-    result: &[u32; 6],
-    words: &[u32; 10],
-    sum: u32,
-) -> usize
-    requires { ⌜ at + 176 ≤ 45056 ⌝ }
-    ensures { λ end. ⌜ end ≤ at + 176 ⌝ }
-{
-    text::put_outcome(text, at, result, words, sum)
+fn put_result(text: &mut [u8], result: &[u32; 6]) -> usize {
+    let answer = testing::put_number(text, 0, result[0], b' ');
+    let index = testing::put_number(text, answer, result[1], b' ');
+    let cycles = testing::put_number(text, index, result[2], b' ');
+    let rises = testing::put_number(text, cycles, result[3], b' ');
+    let falls = testing::put_number(text, rises, result[4], b' ');
+    testing::put_number(text, falls, result[5], b' ')
 }

@@ -1,22 +1,30 @@
 // A record's line: the kind, the block length, the settings in the order of their declaration, and the registration.
 // Floats are words by their bits, a NaN as 7fc00000; bools are 0 or 1. A malformed record has the kind 0 and no settings.
-use crate::text;
 use jobs::Asked;
 use jobs::Job;
 use jobs::Settings;
+use libc::STDOUT_FILENO;
 
 pub(crate) fn say(job: Job) {
+    let mut space = [0u8; 144];
+    let text: &mut [u8] = &mut space;
     let asked = job.asked;
     let registration = job.registration;
-    match asked {
-        Asked::BadRecord => text::say_head(0, job.block_length),
-        Asked::Play(settings) => say_settings(settings, job.block_length),
-    }
-    say_registration(registration);
-    text::say(b"\n");
+    let settings = match asked {
+        Asked::BadRecord => put_head(text, 0, job.block_length),
+        Asked::Play(settings) => put_settings(text, settings, job.block_length),
+    };
+    let end = put_registration(text, settings, registration);
+    io::write_all(STDOUT_FILENO, testing::front(text, end));
 }
 
-fn say_settings(settings: Settings, length: u16) {
+// The kind and the block length, with which a line begins.
+fn put_head(text: &mut [u8], kind: u32, length: u16) -> usize {
+    let at = testing::put_number(text, 0, kind, b' ');
+    testing::put_number(text, at, length as u32, b' ')
+}
+
+fn put_settings(text: &mut [u8], settings: Settings, length: u16) -> usize {
     match settings {
         Settings::VariableShape {
             frequency,
@@ -27,48 +35,68 @@ fn say_settings(settings: Settings, length: u16) {
             sync,
             phase_output,
         } => {
-            say_three(1, length, frequency, master_frequency, pw);
-            text::say_float(waveshape);
-            text::say_float(phase_modulation);
-            text::say_bool(sync);
-            text::say_bool(phase_output);
+            let at = put_head(text, 1, length);
+            let words = [
+                floats::to_bits(frequency),
+                floats::to_bits(master_frequency),
+                floats::to_bits(pw),
+                floats::to_bits(waveshape),
+                floats::to_bits(phase_modulation),
+                block::one_if(sync),
+                block::one_if(phase_output),
+            ];
+            testing::put_words(text, at, &words, b' ')
         }
         Settings::VariableSaw {
             frequency,
             pw,
             waveshape,
-        } => say_three(2, length, frequency, pw, waveshape),
-        Settings::SuperSquare { frequency, shape } => say_two(3, length, frequency, shape),
+        } => {
+            let at = put_head(text, 2, length);
+            let words = [
+                floats::to_bits(frequency),
+                floats::to_bits(pw),
+                floats::to_bits(waveshape),
+            ];
+            testing::put_words(text, at, &words, b' ')
+        }
+        Settings::SuperSquare { frequency, shape } => put_two(
+            text,
+            3,
+            length,
+            frequency,
+            floats::to_bits(shape),
+        ),
         Settings::NesTriangle {
             frequency,
             num_bits,
-        } => {
-            text::say_head(4, length);
-            text::say_float(frequency);
-            text::say_word(num_bits);
-        }
-        Settings::StringSynth { frequency, gain } => say_two(5, length, frequency, gain),
+        } => put_two(text, 4, length, frequency, num_bits),
+        Settings::StringSynth { frequency, gain } => put_two(
+            text,
+            5,
+            length,
+            frequency,
+            floats::to_bits(gain),
+        ),
     }
 }
 
-// The beginning of a line, with the first three settings.
-fn say_three(kind: u32, length: u16, first: f32, second: f32, third: f32) {
-    say_two(kind, length, first, second);
-    text::say_float(third);
+// The beginning of a line of a kind that has two settings.
+fn put_two(text: &mut [u8], kind: u32, length: u16, frequency: f32, second: u32) -> usize {
+    let at = put_head(text, kind, length);
+    let words = [floats::to_bits(frequency), second];
+    testing::put_words(text, at, &words, b' ')
 }
 
-fn say_two(kind: u32, length: u16, first: f32, second: f32) {
-    text::say_head(kind, length);
-    text::say_float(first);
-    text::say_float(second);
-}
-
-fn say_registration(registration: [f32; 7]) {
-    text::say_float(registration[0]);
-    text::say_float(registration[1]);
-    text::say_float(registration[2]);
-    text::say_float(registration[3]);
-    text::say_float(registration[4]);
-    text::say_float(registration[5]);
-    text::say_float(registration[6]);
+fn put_registration(text: &mut [u8], at: usize, registration: [f32; 7]) -> usize {
+    let words = [
+        floats::to_bits(registration[0]),
+        floats::to_bits(registration[1]),
+        floats::to_bits(registration[2]),
+        floats::to_bits(registration[3]),
+        floats::to_bits(registration[4]),
+        floats::to_bits(registration[5]),
+        floats::to_bits(registration[6]),
+    ];
+    testing::put_words(text, at, &words, b'\n')
 }

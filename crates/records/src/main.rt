@@ -1,11 +1,10 @@
-// Reads job records of 64 bytes from standard input, and prints a line for each with what `jobs::record` and `jobs::read` give.
+// Test program: reads job records of 64 bytes from standard input, and prints a line for each with what `jobs::record` and `jobs::read` give.
 // The whole records of a chunk are handed over as one list, of which each is taken by its number. A rest of fewer than 64 bytes, at the
 // input's end, is in no list: it is read as a part of its own, and its line is the last.
 ghost use Prim.Native.Nat.{_≤_};
 use libc::STDIN_FILENO;
 
 mod line;
-mod text;
 
 // A proved loop has to end, and nothing says that the input does: so the turns are counted down, from a number that no run uses up.
 fn main() {

@@ -1,4 +1,4 @@
-// Prints the states that each oscillator starts from. Then reads records of 44 bytes from standard input, a state's ten words and a phase,
+// Test program: prints the states that each oscillator starts from. Then reads records of 44 bytes from standard input, a state's ten words and a phase,
 // and prints for each what the three forms of the variable shape's `set_master_phase` answered and left. A last record that is not whole is left out.
 use libc::STDIN_FILENO;
 
@@ -6,7 +6,6 @@ mod fields;
 mod record;
 mod setting;
 mod starting;
-mod text;
 
 // A proved loop has to end, and nothing says that the input does: so the turns are counted down, from a number that no run uses up.
 fn main() {

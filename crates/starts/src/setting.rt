@@ -2,39 +2,47 @@
 ghost use mathlib.Core.Path.{_≡_};
 ghost use Rattle.variable_shape.specs.MasterPhase.{masterPhaseSet, leftSet};
 use crate::fields;
-use crate::text;
+use libc::STDOUT_FILENO;
 use variable_shape::PhaseSet;
 use variable_shape::State;
 
 // The line: exported, by value and lent, each with its answer and the words that it left.
 pub(crate) fn say_forms(words: [u32; 10], phase: f32) {
-    say_exported(words, phase);
-    text::say(b" ");
-    say_set(variable_shape::set_master_phase(fields::variable_shape_of(words), phase));
-    text::say(b" ");
-    say_set(set_lent(fields::variable_shape_of(words), phase));
-    text::say(b"\n");
+    let mut space = [0u8; 276];
+    let text: &mut [u8] = &mut space;
+    let exported = put_exported(text, words, phase);
+    let set = variable_shape::set_master_phase(fields::variable_shape_of(words), phase);
+    let by_value = put_set(text, exported, set, b' ');
+    let lent = set_lent(fields::variable_shape_of(words), phase);
+    let end = put_set(text, by_value, lent, b'\n');
+    io::write_all(STDOUT_FILENO, testing::front(text, end));
 }
 
-fn say_exported(words: [u32; 10], phase: f32) {
+fn put_exported(text: &mut [u8], words: [u32; 10], phase: f32) -> usize {
     let mut left = words;
     let number = navuloqu::variable_shape::navuloqu_variable_shape_set_master_phase(
         &mut left,
         phase,
     );
-    say_left(number, &left);
+    put_left(text, 0, number, &left, b' ')
 }
 
-fn say_set(set: PhaseSet) {
+fn put_set(text: &mut [u8], at: usize, set: PhaseSet, last: u8) -> usize {
     let answer = set.answer;
     let state = set.state;
-    say_left(block::number(answer), &fields::of_variable_shape(state));
+    put_left(
+        text,
+        at,
+        block::number(answer),
+        &fields::of_variable_shape(state),
+        last,
+    )
 }
 
 // It takes an array by reference, whose length needs no proof.
-fn say_left(number: u32, words: &[u32; 10]) {
-    text::say_digit(number);
-    text::say_words(words);
+fn put_left(text: &mut [u8], at: usize, number: u32, words: &[u32; 10], last: u8) -> usize {
+    let answer = testing::put_number(text, at, number, b' ');
+    testing::put_words(text, answer, words, last)
 }
 
 // The form on a lent state, with the state by value: here it is lent, and handed back with the answer.

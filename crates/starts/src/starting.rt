@@ -1,6 +1,6 @@
 // The states that each oscillator starts from: what `new` and `init` give by value, and the words that the exported `init` leaves.
 use crate::fields;
-use crate::text;
+use libc::STDOUT_FILENO;
 
 pub(crate) fn say_all() {
     say_variable_shape();
@@ -14,45 +14,54 @@ fn say_variable_shape() {
     let new = fields::of_variable_shape(variable_shape::new());
     let init = fields::of_variable_shape(variable_shape::init());
     let exported = exported_variable_shape();
-    text::say_state(b"variable shape, new:", &new);
-    text::say_state(b"variable shape, init:", &init);
-    text::say_state(b"variable shape, exported init:", &exported);
+    say_state(b"variable shape, new: ", &new);
+    say_state(b"variable shape, init: ", &init);
+    say_state(b"variable shape, exported init: ", &exported);
 }
 
 fn say_variable_saw() {
     let new = fields::of_variable_saw(variable_saw::new());
     let init = fields::of_variable_saw(variable_saw::init());
     let exported = exported_variable_saw();
-    text::say_state(b"variable saw, new:", &new);
-    text::say_state(b"variable saw, init:", &init);
-    text::say_state(b"variable saw, exported init:", &exported);
+    say_state(b"variable saw, new: ", &new);
+    say_state(b"variable saw, init: ", &init);
+    say_state(b"variable saw, exported init: ", &exported);
 }
 
 fn say_super_square() {
     let new = fields::of_super_square(super_square::new());
     let init = fields::of_super_square(super_square::init());
     let exported = exported_super_square();
-    text::say_state(b"super square, new:", &new);
-    text::say_state(b"super square, init:", &init);
-    text::say_state(b"super square, exported init:", &exported);
+    say_state(b"super square, new: ", &new);
+    say_state(b"super square, init: ", &init);
+    say_state(b"super square, exported init: ", &exported);
 }
 
 fn say_nes_triangle() {
     let new = fields::of_nes_triangle(nes_triangle::new());
     let init = fields::of_nes_triangle(nes_triangle::init());
     let exported = exported_nes_triangle();
-    text::say_state(b"NES triangle, new:", &new);
-    text::say_state(b"NES triangle, init:", &init);
-    text::say_state(b"NES triangle, exported init:", &exported);
+    say_state(b"NES triangle, new: ", &new);
+    say_state(b"NES triangle, init: ", &init);
+    say_state(b"NES triangle, exported init: ", &exported);
 }
 
 fn say_string_synth() {
     let new = fields::of_string_synth(string_synth::new());
     let init = fields::of_string_synth(string_synth::init());
     let exported = exported_string_synth();
-    text::say_state(b"string synth, new:", &new);
-    text::say_state(b"string synth, init:", &init);
-    text::say_state(b"string synth, exported init:", &exported);
+    say_state(b"string synth, new: ", &new);
+    say_state(b"string synth, init: ", &init);
+    say_state(b"string synth, exported init: ", &exported);
+}
+
+// A line with a name and the words of a state.
+fn say_state(name: &[u8], words: &[u32]) {
+    let mut space = [0u8; 128];
+    let text: &mut [u8] = &mut space;
+    let at = testing::put(text, 0, name);
+    let end = testing::put_words(text, at, words, b'\n');
+    io::write_all(STDOUT_FILENO, testing::front(text, end));
 }
 
 // Before an exported `init` each word has all its bits set, so that one that it leaves alone is seen.

@@ -1,0 +1,3 @@
+-- The laws of lines and checksums, and tightness.
+pub mod Steps
+pub mod Tight
