@@ -5,6 +5,7 @@
 mod buffers;
 mod calls;
 mod difference;
+mod heard;
 mod leaves;
 mod lists;
 mod random;
@@ -27,7 +28,8 @@ const USAGE: &str = "usage: compare make-leaves COUNT SEED | expect-leaves | \
     make-lists COUNT SEED | make-recorded-lists | split-lists DIR | expect-list | \
     expect-lists [--stats] | make-starts COUNT SEED | expect-starts | \
     make-records COUNT SEED | expect-records | \
-    first-difference leaves|calls|lists|starts|records INPUT EXPECTED GOT";
+    make-recorded-heard | expect-heard [--stats] | \
+    first-difference leaves|calls|lists|starts|records|heard INPUT EXPECTED GOT";
 
 fn main() {
     let words: Vec<String> = env::args().skip(1).collect();
@@ -65,6 +67,9 @@ fn run(words: &[&str]) -> Result<(), String> {
             write_out(&records::records(number(count)?, number(seed)?))
         }
         ["expect-records"] => write_out(records::text(&read_input()?).as_bytes()),
+        ["make-recorded-heard"] => write_out(&heard::stream()),
+        ["expect-heard"] => expect_heard().map(|_| ()),
+        ["expect-heard", "--stats"] => expect_heard().map(|tried| eprint!("{tried}")),
         ["first-difference", what, input, expected, got] => {
             first_difference(what, [input, expected, got])
         }
@@ -149,7 +154,7 @@ fn first_difference(what: &str, names: [&str; 3]) -> Result<(), String> {
     tell(match what {
         "leaves" => of_records(leaves::RECORD_BYTES),
         "calls" => of_records(RECORD_BYTES),
-        "lists" => lists::framed::first_difference(&input, &expected, &got),
+        "lists" | "heard" => lists::framed::first_difference(&input, &expected, &got),
         "starts" => starts::first_difference(&input, &expected, &got),
         "records" => of_records(records::RECORD_BYTES),
         _ => return Err(USAGE.to_string()),
@@ -197,6 +202,12 @@ fn expect_lists() -> Result<lists::Tried, String> {
     let mut tried = lists::Tried::default();
     let texts = lists::framed::texts(&read_input()?, &mut tried)?;
     write_out(&texts)?;
+    Ok(tried)
+}
+
+fn expect_heard() -> Result<lists::Tried, String> {
+    let mut tried = lists::Tried::default();
+    write_out(&heard::texts(&read_input()?, &mut tried)?)?;
     Ok(tried)
 }
 

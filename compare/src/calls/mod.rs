@@ -11,7 +11,7 @@ pub mod record;
 pub mod stats;
 
 pub use kinds::Kinds;
-pub use line::{answer_and_counts, canonical};
+pub use line::{answer_and_counts, canonical, checksum};
 pub use model::start;
 pub use original::starting_words;
 pub use record::SHAPE;
