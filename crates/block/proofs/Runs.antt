@@ -24,14 +24,6 @@ module _ {S : Type 0} (make : S → List Float → Float → Sample S) (rooms : 
   unfolding run
   run-done h = ap (λ (f : Found). driftOr f s xs (play make s noCounts (stepsOf (length xs) ps) xs)) h
 
-  -- as the walk's answer tells it
-  module _ (found : Found) (walked : found ≡ firstOutside rooms (stepsOf (length xs) ps)) where
-    pub walk-drift : (i : ℕ) → found ≡ Outside i → refusal 6 i s xs ≡ run make rooms ps s xs
-    walk-drift i h = sym (run-drift i (sym walked ∙ h))
-
-    pub walk-done : found ≡ Nowhere → playedOf make s ps xs ≡ run make rooms ps s xs
-    walk-done h = sym (run-done (sym walked ∙ h))
-
 -- as the walk tells it, which takes five places: those without a room of their own change nothing
 module _ (rooms : List Room) (k : ℕ) (ps : List ParameterInterpolator) (xs : List Float) {found : Found} (walked : found ≡ firstOutside (rooms ++ unused k) (stepsOf (length xs) ps)) where
   here : found ≡ firstOutside rooms (stepsOf (length xs) (used rooms ps))

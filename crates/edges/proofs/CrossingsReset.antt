@@ -1,5 +1,5 @@
 -- A reset before the crossing loop: it takes nothing off what the loop starts from, and the loop may then not run. Assumes nothing.
-use mathlib.Core.Path.{_≡_, refl, sym, subst}
+use mathlib.Core.Path.{_≡_, refl}
 use mathlib.Core.Bool.{Bool, true, false, cond}
 use native.Mathlib.Omega.{arith}
 use lib.Ieee.{Float}
@@ -7,7 +7,7 @@ use Rattle.edges.specs.declared.AtReset.{AtReset}
 use Rattle.edges.specs.declared.Edge.{Edge}
 use Rattle.edges.specs.Sync.{atResetOf, cutEdge, resetOf}
 use Rattle.edges.specs.CrossingLoop.{Crosses, Crossable}
-use Rattle.edges.proofs.CrossingLoop.{Counted, Crossed, looped, crossed-of}
+use Rattle.edges.proofs.CrossingLoop.{Counted, looped, crossed-of}
 
 -- e is the start b with a cut
 pub cut-crossable : {width : Float} (value time : Float) {a b e : Edge} → Crossable width a → b ≡ a → e ≡ cutEdge value time b → Crossable width e

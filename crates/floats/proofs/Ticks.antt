@@ -1,7 +1,7 @@
 -- The lengths that a phase is measured in. A tick is 2 ^ -24, and 1.0, a cycle, is 16,777,216 ticks: below 2.0 a sum rounds by a tick at most, and 1.0 is taken off exactly.
 -- `tick` stays shut, since `omega` reads no numeral above 38 digits: so every bound is linear in it. Assumes nothing.
 use mathlib.Core.Path.{_≡_, refl, sym, ap, _∙_, subst}
-use Prim.Native.Nat.{ℕ, suc, _+_, _-_, _*_, _^_, _≤_, _<_}
+use Prim.Native.Nat.{ℕ, suc, _+_, _*_, _^_, _≤_, _<_}
 use native.Mathlib.Nat.{le-trans, le-of-eq, le-of-lt, lt-of-le-of-lt, lt-of-not-le, not-le-of-lt, mul-assoc, mul-comm, pow-suc, suc-mul, mul-sub, mul-le-mul-right, lt-of-mul-lt-mul-right, sub-le, add-le-add-iff-right}
 use native.Mathlib.Omega.{arith}
 use mathlib.Core.Bool.{Bool, true, false, not}

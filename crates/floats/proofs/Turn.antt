@@ -1,7 +1,7 @@
 -- One sample of a phase that wraps at c: the step is added, and where the sum is c or more, c is taken off and a cycle counted. The account is off by a rounding of the sum at most.
 -- Stated once for every oscillator: c is 1.0 or 8.0, and B is the most that the sum can be. Assumes nothing.
 use mathlib.Core.Path.{_≡_, refl, sym}
-use Prim.Native.Nat.{ℕ, _+_, _-_, _*_, _^_, _≤_, _<_}
+use Prim.Native.Nat.{ℕ, _+_, _*_, _^_, _≤_, _<_}
 use native.Mathlib.Nat.{lt-of-le-of-lt}
 use native.Mathlib.Omega.{arith}
 use borrow.Author.Tests.{leb-true, leb-false}

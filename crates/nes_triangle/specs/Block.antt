@@ -14,7 +14,6 @@ use Rattle.rooms.specs.declared.Room.{Room}
 use Rattle.rooms.specs.declared.Room.the-variants.{Frequency}
 use Rattle.ranges.specs.Ranges.{phaseIn, frequencyIn, parameterFrequencyIn, allOf}
 use Rattle.block.specs.Calls.{Call, gave}
-use Rattle.block.specs.Checks.{_unless_}
 use Rattle.block.specs.Oscillator.{Oscillator, callOf}
 use Rattle.nes_triangle.specs.declared.State.{State}
 use Rattle.nes_triangle.specs.declared.Rendered.{Rendered}

@@ -30,18 +30,6 @@ unused-in zero xs = refl
 unused-in (suc k) [] = refl
 unused-in (suc k) (x ∷ xs) = unused-in k xs
 
-allIn-padded : (rs : List Room) (k : ℕ) (ps qs : List ParameterInterpolator) → length rs ≡ length ps → allIn (rs ++ unused k) (values (ps ++ qs)) ≡ allIn rs (values ps)
-unfolding allIn values
-allIn-padded [] k [] qs h = unused-in k _
-allIn-padded [] k (p ∷ ps) qs h = absurd (omega arith)
-allIn-padded (r ∷ rs) k [] qs h = absurd (omega arith)
-allIn-padded (r ∷ rs) k (p ∷ ps) qs h = ap (λ (b : Bool). inRoom r (p .value) && b) (allIn-padded rs k ps qs (omega arith))
-
-moved-both : (ps qs : List ParameterInterpolator) → moved (ps ++ qs) ≡ moved ps ++ moved qs
-unfolding moved
-moved-both [] qs = refl
-moved-both (p ∷ ps) qs = rw (moved-both ps qs)
-
 pub moved-length : (ps : List ParameterInterpolator) → length (moved ps) ≡ length ps
 unfolding moved
 moved-length [] = refl
@@ -51,13 +39,6 @@ pub values-length : (ps : List ParameterInterpolator) → length (values ps) ≡
 unfolding values
 values-length [] = refl
 values-length (p ∷ ps) = ap suc (values-length ps)
-
-pub padded : (n : ℕ) (rs : List Room) (k : ℕ) (ps qs : List ParameterInterpolator) → length rs ≡ length ps
-    → firstOutside (rs ++ unused k) (stepsOf n (ps ++ qs)) ≡ firstOutside rs (stepsOf n ps)
-unfolding firstOutside stepsOf
-padded zero rs k ps qs h = refl
-padded (suc n) rs k ps qs h =
-    rw (moved-both ps qs, allIn-padded rs k (moved ps) (moved qs) (omega (arith, moved-length ps)), padded n rs k (moved ps) (moved qs) (omega (arith, moved-length ps)))
 
 -- the places that are used go on by themselves
 pub moved-used : (rs : List Room) (ps : List ParameterInterpolator) → moved (used rs ps) ≡ used rs (moved ps)

@@ -14,7 +14,6 @@ use Rattle.rooms.specs.declared.Room.{Room}
 use Rattle.rooms.specs.declared.Room.the-variants.{StringFrequency, Sixteen}
 use Rattle.ranges.specs.Ranges.{within, parameterFrequencyIn, unitIn, sixteenIn, allOf}
 use Rattle.block.specs.Calls.{Call, gave}
-use Rattle.block.specs.Checks.{_unless_}
 use Rattle.block.specs.Oscillator.{Oscillator, callOf}
 use Rattle.string_synth.specs.declared.State.{State}
 use Rattle.string_synth.specs.declared.Rendered.{Rendered}

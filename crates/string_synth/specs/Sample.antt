@@ -1,7 +1,7 @@
 -- One sample of the string synth: string_synth_oscillator.rs, lines 107 to 150, in its order. Assumes nothing.
 use mathlib.Core.Bool.{Bool, cond}
 use mathlib.Core.List.{List}
-use Prim.Native.Nat.{ℕ, _-_}
+use Prim.Native.Nat.{ℕ}
 use lib.Bits.{bitAnd}
 use lib.Dec.{eqb}
 use lib.IntN.{pos}

@@ -3,7 +3,7 @@ use mathlib.Core.Path.{refl}
 use native.Mathlib.Omega.{arith}
 use lib.Ieee.{Float}
 use Rattle.floats.specs.F32.{half32}
-use Rattle.floats.proofs.Ticks.{cycle, tick-pos, half-at}
+use Rattle.floats.proofs.Ticks.{tick-pos, half-at}
 use Rattle.floats.proofs.Turn.{turn-1, turn-sum}
 use Rattle.edges.specs.declared.Edge.{Edge}
 use Rattle.edges.specs.CrossingLoop.{Rises, Falls, Crosses, Crossable}

@@ -12,7 +12,6 @@ use Rattle.rooms.specs.declared.Room.the-variants.{Frequency}
 use Rattle.ranges.specs.Targets.{clipped}
 use Rattle.ranges.specs.Ranges.{phaseIn, frequencyIn, parameterFrequencyIn, unitIn, allOf}
 use Rattle.block.specs.Calls.{Call, gave}
-use Rattle.block.specs.Checks.{_unless_}
 use Rattle.block.specs.Oscillator.{Oscillator, callOf}
 use Rattle.super_square.specs.declared.State.{State}
 use Rattle.super_square.specs.declared.Rendered.{Rendered}

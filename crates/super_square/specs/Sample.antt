@@ -1,5 +1,5 @@
 -- One sample of the super square: super_square_oscillator.rs, lines 60 to 131, in its order. Assumes nothing.
-use mathlib.Core.Bool.{Bool, true, false, cond}
+use mathlib.Core.Bool.{Bool, false, cond}
 use mathlib.Core.List.{List}
 use Prim.Native.Nat.{ℕ}
 use lib.ListN.{getD}

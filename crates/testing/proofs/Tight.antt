@@ -1,14 +1,14 @@
 -- Every public function's contract, as the kit reads it, determines its outcome. Assumes nothing.
 use mathlib.Core.Path.{_≡_, refl, sym, _∙_, ap}
 use mathlib.Core.List.{List}
-use Prim.Native.Nat.{ℕ, _-_, _^_, _≤_, _<_}
+use Prim.Native.Nat.{ℕ, _^_, _≤_, _<_}
 use native.Mathlib.Nat.{pow-le-pow-right}
 use native.Mathlib.Omega.{arith}
 use contract.Lifetimes.{Lfts}
 use denote.Ref.{RefT, now}
 use Rattle.floats.proofs.Contracts.{Determines, coincide}
 use Rattle.io.specs.Digits.{digits, Fewest}
-use Rattle.testing.specs.Text.{Line, line, byteOf, putOf, Numbered}
+use Rattle.testing.specs.Text.{Line, byteOf, putOf, Numbered}
 use Rattle.testing.proofs.record.word_at
 use Rattle.testing.proofs.samples.checksum
 use Rattle.testing.proofs.text.front

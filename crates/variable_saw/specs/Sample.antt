@@ -1,5 +1,5 @@
 -- One sample of the variable saw: variable_saw_oscillator.rs, lines 63 to 110, in its order. Assumes nothing.
-use mathlib.Core.Bool.{true, false, not, _&&_, cond}
+use mathlib.Core.Bool.{not, _&&_, cond}
 use mathlib.Core.List.{List}
 use Prim.Native.Nat.{ℕ}
 use lib.ListN.{getD}

@@ -2,7 +2,7 @@
 -- the cycles: the master's with sync, the slave's without. Assumes nothing.
 use mathlib.Core.Path.{_≡_, refl}
 use mathlib.Core.Bool.{Bool, true, false, cond}
-use Prim.Native.Nat.{ℕ, _+_, _*_, _≤_}
+use Prim.Native.Nat.{ℕ, _*_, _≤_}
 use mathlib.Core.List.{List}
 use native.Mathlib.Omega.{arith}
 use lib.ListN.{getD}
@@ -13,7 +13,6 @@ use Rattle.floats.proofs.Ticks.{tick, cycle, one-at, tick-pos, Sum}
 use Rattle.floats.proofs.Turn.{Step, turn-1, turn-sum, turn-wraps, turn-stays, phase-step}
 use Rattle.floats.proofs.Ranges.{Under, passed-le, failed-le, mul-le, reset-time}
 use Rattle.edges.specs.declared.Edge.{Edge}
-use Rattle.block.specs.Counting.{oneIf}
 use Rattle.rooms.specs.declared.Room.the-variants.{Unused}
 use Rattle.ranges.specs.Ranges.{sixteenIn}
 use Rattle.block.specs.Limits.{Balanced}

@@ -10,7 +10,7 @@ use lib.Ieee.{Float, le}
 use Rattle.floats.specs.F32.{zero32, one32}
 use Rattle.parameter_interpolator.specs.declared.ParameterInterpolator.{ParameterInterpolator}
 use Rattle.rooms.specs.Steps.{values}
-use Rattle.ranges.proofs.Bools.{cond-both}
+use Rattle.floats.proofs.Bools.{cond-both}
 use Rattle.rooms.proofs.Places.{place}
 use Rattle.rooms.proofs.Padding.{used}
 use Rattle.variable_shape.specs.declared.State.{State}

@@ -12,7 +12,6 @@ use Rattle.rooms.specs.declared.Room.the-variants.{Frequency, PulseWidth, Waves
 use Rattle.ranges.specs.Targets.{clipped, clampedWidth}
 use Rattle.ranges.specs.Ranges.{within, phaseIn, frequencyIn, parameterFrequencyIn, unitIn, waveshapeIn, sixteenIn, allOf}
 use Rattle.block.specs.Calls.{Call, gave}
-use Rattle.block.specs.Checks.{_unless_}
 use Rattle.block.specs.Oscillator.{Oscillator, callOf}
 use Rattle.variable_shape.specs.declared.State.{State}
 use Rattle.variable_shape.specs.declared.Rendered.{Rendered}

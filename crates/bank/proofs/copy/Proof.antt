@@ -1,5 +1,4 @@
 -- `bank::copy` meets its contract: the loop copies sample by sample. The measure is how many are left. Assumes nothing.
-use Prim.Native.Nat.{_-_}
 use borrow.Author.Needs.{needs}
 use lib.ListN.{length}
 use Rattle.bank.proofs.Lending.{Copied, copied-start, copied-more, copied-end}

@@ -1,6 +1,5 @@
 -- `heard::say_records` is safe and ends: the measure is the number of records left. Nothing else has to hold from turn to turn. Assumes nothing.
 use borrow.Author.Needs.{needs}
-use Prim.Native.Nat.{_-_}
 use Rattle.heard.proofs.say_records.Statement.{statement}
 use Rattle.heard.proofs.say_records.Tie as tie
 

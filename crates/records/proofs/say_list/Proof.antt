@@ -1,6 +1,5 @@
 -- `records::say_list` is safe and ends: the measure is the number of records left. Nothing else has to hold from turn to turn. Assumes nothing.
 use borrow.Author.Needs.{needs}
-use Prim.Native.Nat.{_-_}
 use Rattle.records.proofs.say_list.Statement.{statement}
 use Rattle.records.proofs.say_list.Tie as tie
 

@@ -3,7 +3,7 @@ use Rattle.bank.specs.Bank.{recordPlayed}
 use Rattle.render.specs.Private.{saidOf}
 use mathlib.Core.List.{List}
 use mathlib.Core.Path.{_∙_, ap}
-use Prim.Native.Nat.{ℕ, _-_}
+use Prim.Native.Nat.{ℕ}
 use Rattle.render.proofs.Loop.{Running, running-start, running-more, running-end}
 use borrow.Author.Needs.{needs}
 use Rattle.render.proofs.records.Statement.{statement}

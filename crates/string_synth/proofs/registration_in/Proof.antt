@@ -1,5 +1,4 @@
 -- `string_synth::registration_in` meets its contract: the loop's law stands in `Registrations`. Assumes nothing.
-use Prim.Native.Nat.{_-_}
 use lib.ListN.{length}
 use borrow.Author.Needs.{needs}
 use Rattle.string_synth.proofs.Registrations.{Tested, tested-start, tested-more, tested-end}

@@ -1,6 +1,5 @@
 -- `super_square::play` meets its contract: the loop's law is `block`'s, for any oscillator. Assumes nothing.
 use native.Mathlib.Omega.{arith}
-use Prim.Native.Nat.{_-_}
 use lib.Dec.{lit<}
 use lib.ListN.{length}
 use borrow.Author.Needs.{needs}

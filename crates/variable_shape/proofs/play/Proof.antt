@@ -1,6 +1,5 @@
 -- `variable_shape::play` meets its contract: the loop's law is `block`'s, for any oscillator. Assumes nothing.
 use mathlib.Core.Path.{refl}
-use Prim.Native.Nat.{_-_}
 use native.Mathlib.Omega.{arith}
 use lib.ListN.{length}
 use borrow.Author.Needs.{needs}

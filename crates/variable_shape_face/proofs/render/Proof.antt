@@ -1,13 +1,12 @@
 -- `variable_shape_face::render` meets its contract: the variable shape's own call, put into words. Assumes nothing.
 use mathlib.Core.Path.{_∙_, sym}
 use borrow.Author.Needs.{needs}
-use Rattle.floats.proofs.Bools.{chosen, other}
 use Rattle.words.proofs.Faces.{face-is}
 use Rattle.variable_shape_face.proofs.render.Statement.{statement}
 use Rattle.variable_shape_face.proofs.render.Tie as tie
 
 returns : tie.Need-returns
-returns c = rw (c .no-state .ensures) (chosen _ _ _ (sym (c .before .before .no-bool .ensures) ∙ c .before .if1 .taken))
+returns c = rw (c .no-state .ensures, sym (c .before .before .no-bool .ensures) ∙ c .before .if1 .taken)
 
 returns-2 : tie.Need-returns-2
 returns-2 c =
@@ -16,8 +15,8 @@ returns-2 c =
     let r = q .before .before .before .before .before in
     let s = r .before .before in
     let i = s .before .before in
-    face-is _ _ (rw (s .state-of .ensures) at (r .render .ensures)) (n .stores .ensures) (c .before .words-of .ensures) (c .store .ensures) (q .result-of .ensures)
-    ∙ other _ _ _ (sym (i .before .no-bool .ensures) ∙ i .if1 .left)
+    rw (sym (i .before .no-bool .ensures) ∙ i .if1 .left)
+    (face-is _ _ (rw (s .state-of .ensures) at (r .render .ensures)) (n .stores .ensures) (c .before .words-of .ensures) (c .store .ensures) (q .result-of .ensures))
 
 pub render-spec : {M : Type 1} → statement M
 render-spec =

@@ -1,8 +1,6 @@
 -- `calls::record::read_state` stays within the words. The loop's invariant: they keep their number. The measure is how many are left. Assumes nothing.
 use native.Mathlib.Omega.{arith}
-use borrow.Author.Needs.{needs}
 use lib.ListN.{length, length-set}
-use Prim.Native.Nat.{_-_}
 use mathlib.Core.Path.{_≡_, refl}
 use Rattle.calls.proofs.record.read_state.Statement.{statement}
 use Rattle.calls.proofs.record.read_state.Tie as tie

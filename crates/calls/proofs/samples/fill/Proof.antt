@@ -1,7 +1,6 @@
 -- `calls::samples::fill` stays within the buffer. The loop's invariant: the buffer keeps its length. The measure is the number of samples left. Assumes nothing.
 use native.Mathlib.Omega.{arith}
 use lib.ListN.{length, length-set}
-use Prim.Native.Nat.{_-_}
 use mathlib.Core.Path.{_≡_, refl}
 use Rattle.calls.proofs.samples.fill.Statement.{statement}
 use Rattle.calls.proofs.samples.fill.Tie as tie

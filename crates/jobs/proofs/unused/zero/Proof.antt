@@ -1,6 +1,5 @@
 -- `jobs::unused::zero` meets its contract. The loop's invariant: what is asked of the whole is asked of the bytes from `i` on. Assumes nothing.
 use mathlib.Core.Path.{_≡_, refl, sym, _∙_}
-use Prim.Native.Nat.{_-_}
 use borrow.Author.Needs.{needs}
 use borrow.Author.Tests.{not-true, not-false}
 use lib.ListN.{length, drop}

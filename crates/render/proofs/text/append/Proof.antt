@@ -1,5 +1,4 @@
 -- `render::text::append` meets its contract: the loop copies byte by byte. Assumes nothing.
-use Prim.Native.Nat.{_-_}
 use borrow.Author.Needs.{needs}
 use lib.ListN.{length}
 use Rattle.render.proofs.Laying.{Copied, copied-start, copied-more, copied-end}

@@ -10,7 +10,7 @@ use lib.Ieee.{Float, binary32, fits}
 use mir.Syntax.{named}
 use mir.Val.{Val, vfloat, vptr}
 use base.Logic.{SProp, ent, sep, emp, via, fst∗, id⊢}
-use base.Fml.{GName, Lft, Fml, ftrue, fsep, fat, flft, flent}
+use base.Fml.{GName, Fml, ftrue, fsep, fat, flft, flent}
 use prog.Memory.{Memory}
 use prog.Routine.{Routine}
 use prog.Wp.{Heap, Calls, Loops, WpFn, Tables}

@@ -1,7 +1,6 @@
 -- `string_synth::targets::lower` meets its contract: the loop's law stands in `Octaves`. Each turn brings the shift nearer to 8, so the
 -- loop ends for every float. Assumes nothing.
 use native.Mathlib.Omega.{arith}
-use Prim.Native.Nat.{_-_}
 use Rattle.string_synth.proofs.Octaves.{Lowering, lowering-start, lowering-below, lowering-more, lowering-end}
 use Rattle.string_synth.proofs.targets.lower.Statement.{statement}
 use Rattle.string_synth.proofs.targets.lower.Tie as tie

@@ -1,6 +1,5 @@
 -- `testing::samples::checksum` meets its contract. The loop's invariant: the sum of all is that of the samples from `i` on, from `sum`. Assumes nothing.
 use mathlib.Core.Path.{_≡_, refl, sym, _∙_}
-use Prim.Native.Nat.{_-_}
 use borrow.Author.Needs.{needs}
 use lib.ListN.{length, drop}
 use Rattle.testing.specs.Samples.{sumFrom, checksumOf}

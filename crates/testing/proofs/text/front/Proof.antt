@@ -1,5 +1,5 @@
 -- `testing::text::front` meets its contract, past the buffer's end too. Assumes nothing.
-use mathlib.Core.Path.{_≡_, sym}
+use mathlib.Core.Path.{sym}
 use native.Mathlib.Nat.{sub-zero}
 use borrow.Author.Needs.{needs}
 use lib.Seq.{take-all}

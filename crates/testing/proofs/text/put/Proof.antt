@@ -1,6 +1,5 @@
 -- `testing::text::put` meets its contract. The loop's invariant: what is left of the text makes of the line so far what all of it makes of the first. Assumes nothing.
 use mathlib.Core.Path.{_≡_, refl, sym, _∙_, ap}
-use Prim.Native.Nat.{_-_}
 use native.Mathlib.Omega.{arith}
 use borrow.Author.Needs.{needs}
 use lib.ListN.{length, drop}

@@ -1,9 +1,5 @@
 -- `testing::text::put_number` meets its contract: the digits, and then the byte after them. Assumes nothing.
-use mathlib.Core.List.{List}
-use mathlib.Core.Path.{_∙_, ap}
-use Prim.Native.Nat.{ℕ}
 use borrow.Author.Needs.{needs}
-use Rattle.testing.specs.Text.{byteOf, putOf}
 use Rattle.testing.proofs.text.put_number.Statement.{statement}
 use Rattle.testing.proofs.text.put_number.Tie as tie
 
