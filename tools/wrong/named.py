@@ -93,6 +93,7 @@ NAMED = [
     ),
     (STRING, "(old + 2.0 * pair.this, counts)", "the buffer overwritten", "(2.0 * pair.this, counts)"),
     (STRING, "call.float(FREQUENCY_AT) > HIGHEST", "never too high", "false"),
+    ("heard/expect.rs", "*state = outcome.words", "no state is carried on", "()"),
     ("lists/expect.rs", "Ok(BAD_INPUT.to_string())", "a bad list answered by the line 7", 'Ok("7\\n".to_string())'),
     ("lists/expect.rs", "Ok(BAD_INPUT.to_string())", "a bad list answered by nothing", "Ok(String::new())"),
     ("lists/expect.rs", "Ok(BAD_RECORD.to_string())", "7 numbered 9", 'Ok("9 0 0 0 0 0".to_string())'),

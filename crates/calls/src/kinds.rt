@@ -1,5 +1,4 @@
 // The call of each kind, with its fields of the record, and the line of what it left.
-ghost use Prim.Native.Nat.{_≤_};
 use crate::record;
 
 pub(crate) fn put_variable_shape(

@@ -1,4 +1,5 @@
 // The buffer before a call.
+
 // Every sample holds these bits; or, where they are 0, sample i holds (i mod 8 + 1) / 4.
 pub(crate) fn fill(out: &mut [f32], bits: u32) {
     let levels = levels_of(bits);

@@ -35,57 +35,51 @@ fn put_settings(text: &mut [u8], settings: Settings, length: u16) -> usize {
             sync,
             phase_output,
         } => {
-            let at = put_head(text, 1, length);
-            let words = [
-                floats::to_bits(frequency),
-                floats::to_bits(master_frequency),
-                floats::to_bits(pw),
-                floats::to_bits(waveshape),
-                floats::to_bits(phase_modulation),
-                block::one_if(sync),
-                block::one_if(phase_output),
-            ];
-            testing::put_words(text, at, &words, b' ')
+            let three = put_three(text, 1, length, frequency, master_frequency, pw);
+            let four = put_float(text, three, waveshape);
+            let five = put_float(text, four, phase_modulation);
+            let six = testing::put_word(text, five, block::one_if(sync), b' ');
+            testing::put_word(text, six, block::one_if(phase_output), b' ')
         }
         Settings::VariableSaw {
             frequency,
             pw,
             waveshape,
-        } => {
-            let at = put_head(text, 2, length);
-            let words = [
-                floats::to_bits(frequency),
-                floats::to_bits(pw),
-                floats::to_bits(waveshape),
-            ];
-            testing::put_words(text, at, &words, b' ')
-        }
-        Settings::SuperSquare { frequency, shape } => put_two(
-            text,
-            3,
-            length,
-            frequency,
-            floats::to_bits(shape),
-        ),
+        } => put_three(text, 2, length, frequency, pw, waveshape),
+        Settings::SuperSquare { frequency, shape } => put_two(text, 3, length, frequency, shape),
         Settings::NesTriangle {
             frequency,
             num_bits,
-        } => put_two(text, 4, length, frequency, num_bits),
-        Settings::StringSynth { frequency, gain } => put_two(
-            text,
-            5,
-            length,
-            frequency,
-            floats::to_bits(gain),
-        ),
+        } => {
+            let head = put_head(text, 4, length);
+            let one = put_float(text, head, frequency);
+            testing::put_word(text, one, num_bits, b' ')
+        }
+        Settings::StringSynth { frequency, gain } => put_two(text, 5, length, frequency, gain),
     }
 }
 
-// The beginning of a line of a kind that has two settings.
-fn put_two(text: &mut [u8], kind: u32, length: u16, frequency: f32, second: u32) -> usize {
-    let at = put_head(text, kind, length);
-    let words = [floats::to_bits(frequency), second];
-    testing::put_words(text, at, &words, b' ')
+// The beginning of a line, with the first three settings.
+fn put_three(
+    text: &mut [u8],
+    kind: u32,
+    length: u16,
+    first: f32,
+    second: f32,
+    third: f32,
+) -> usize {
+    let two = put_two(text, kind, length, first, second);
+    put_float(text, two, third)
+}
+
+fn put_two(text: &mut [u8], kind: u32, length: u16, first: f32, second: f32) -> usize {
+    let head = put_head(text, kind, length);
+    let one = put_float(text, head, first);
+    put_float(text, one, second)
+}
+
+fn put_float(text: &mut [u8], at: usize, x: f32) -> usize {
+    testing::put_word(text, at, floats::to_bits(x), b' ')
 }
 
 fn put_registration(text: &mut [u8], at: usize, registration: [f32; 7]) -> usize {
