@@ -12,7 +12,7 @@ use lib.Ieee.{Float}
 use Rattle.bank.specs.declared.Bank.{Bank}
 use Rattle.bank.specs.declared.Played.{Played}
 use Rattle.bank.specs.Bank.{Made}
-use Rattle.bank.specs.Lent.{left, noRoom, handed}
+use Rattle.bank.specs.Lent.{handedBack, noRoom, handed}
 use Rattle.bank.specs.Private.{madeOf}
 
 -- what a record leaves where there is room, and where there is none
@@ -21,7 +21,7 @@ module _ (b : Bank) (m : Made) (d : List Float) where
   unfolding handed
   with-room h = rw (le-leb (length (m .samples)) (length d) h)
 
-  pub without-room : length d < length (m .samples) → handed b m d ≡ left (noRoom b) d
+  pub without-room : length d < length (m .samples) → handed b m d ≡ handedBack (noRoom b) d
   unfolding handed
   without-room h = rw (lt-leb (length (m .samples)) (length d) h)
 
@@ -31,17 +31,17 @@ module _ (b : Bank) (m : Made) (d : List Float) where
 
 -- the three ways of the function
 module _ (b : Bank) (r : Played) (xs d : List Float) where
-  pub refused-way : (r .outcome .answer ≡ 0 → ⊥) → left r d ≡ handed b (madeOf r xs) d
+  pub refused-way : (r .outcome .answer ≡ 0 → ⊥) → handedBack r d ≡ handed b (madeOf r xs) d
   refused-way h = rw (without-samples b (madeOf r xs) d (rw (ne-eqb (r .outcome .answer) 0 h)))
 
   module _ (h : r .outcome .answer ≡ 0) where
     made : madeOf r xs ≡ record { bank = r .bank; outcome = r .outcome; samples = xs }
     made = rw (eq-eqb (r .outcome .answer) 0 h)
 
-    pub long-way : (q : Played) → length d < length xs → q ≡ noRoom b → left q d ≡ handed b (madeOf r xs) d
+    pub long-way : (q : Played) → length d < length xs → q ≡ noRoom b → handedBack q d ≡ handed b (madeOf r xs) d
     long-way q l e = rw (e, made, without-room b (record { bank = r .bank; outcome = r .outcome; samples = xs }) d l)
 
-    pub room-way : (d' : List Float) → length xs ≤ length d → d' ≡ xs ++ drop (length xs) d → left r d' ≡ handed b (madeOf r xs) d
+    pub room-way : (d' : List Float) → length xs ≤ length d → d' ≡ xs ++ drop (length xs) d → handedBack r d' ≡ handed b (madeOf r xs) d
     room-way d' l e = rw (e, made, with-room b (record { bank = r .bank; outcome = r .outcome; samples = xs }) d l)
 
 -- i samples are copied

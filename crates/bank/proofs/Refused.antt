@@ -11,7 +11,7 @@ use Rattle.block.specs.Oscillator.{callOf}
 use Rattle.block.proofs.Oscillators.{refused-state}
 use Rattle.bank.specs.declared.Bank.{Bank}
 use Rattle.bank.specs.Bank.{Made, recordPlayed}
-use Rattle.bank.specs.Lent.{Handed, left, noRoom, handed, playOf}
+use Rattle.bank.specs.Lent.{Handed, handedBack, noRoom, handed, playOf}
 use Rattle.bank.proofs.EachKind.{by-record}
 
 -- 01: "A refused record changes nothing": no state
@@ -31,7 +31,7 @@ play-kept b p d = go (leb (length (recordPlayed b p .samples)) (length d))
     given t =
         cond t
         (record { bank = recordPlayed b p .bank; outcome = recordPlayed b p .outcome; buffer = recordPlayed b p .samples ++ drop (length (recordPlayed b p .samples)) d })
-        (left (noRoom b) d)
+        (handedBack (noRoom b) d)
 
     go : (t : Bool) → (given t .outcome .answer ≡ 0 → ⊥) → (given t .bank ≡ b) × (given t .buffer ≡ d)
     go true h = (record-kept b p h, rw (record-silent b p h))

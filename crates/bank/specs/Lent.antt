@@ -17,8 +17,8 @@ pub record Handed : Type 0 where
   pub outcome : Outcome
   pub buffer : List Float
 
-abbrev pub left : Played → List Float → Handed
-left r d = record { bank = r .bank; outcome = r .outcome; buffer = d }
+abbrev pub handedBack : Played → List Float → Handed
+handedBack r d = record { bank = r .bank; outcome = r .outcome; buffer = d }
 
 -- 9, NoRoom, a number that 01 leaves free: the states as given, and nothing counted
 abbrev pub noRoom : Bank → Played
@@ -30,7 +30,7 @@ unfoldable pub handed : Bank → Made → List Float → Handed
 handed b m d =
     cond (leb (length (m .samples)) (length d))
     (record { bank = m .bank; outcome = m .outcome; buffer = m .samples ++ drop (length (m .samples)) d })
-    (left (noRoom b) d)
+    (handedBack (noRoom b) d)
 
 -- a record played into a lent buffer
 abbrev pub playOf : Bank → List ℕ → List Float → Handed

@@ -4,7 +4,7 @@ ghost use mathlib.Core.List.{_++_};
 ghost use Prim.Native.Nat.{_≤_};
 ghost use lib.ListN.{length, drop};
 ghost use Rattle.bank.specs.Bank.{initBank, settingsPlayed, silence};
-ghost use Rattle.bank.specs.Lent.{noRoom, handed, playOf, left};
+ghost use Rattle.bank.specs.Lent.{noRoom, handed, playOf, handedBack};
 ghost use Rattle.bank.specs.Private.{lentOf, madeOf};
 use block::Answer;
 use block::Counts;
@@ -53,7 +53,7 @@ pub fn start() -> Bank
 
 // Plays a record. Its samples go to the front of `out`; a refused one, a malformed one among them, changes nothing. 4,096 samples are always room enough.
 pub fn play(bank: Bank, part: &[u8], out: &mut [f32]) -> Played
-    ensures { λ r. ⌜ left r (now (out .exit)) ≡ playOf bank (now (part .entry)) (now (out .entry)) ⌝ }
+    ensures { λ r. ⌜ handedBack r (now (out .exit)) ≡ playOf bank (now (part .entry)) (now (out .entry)) ⌝ }
 {
     let job = jobs::read(part);
     let asked = job.asked;
@@ -77,7 +77,7 @@ fn on_silence(
     n: u16,
     out: &mut [f32],
 ) -> Played
-    ensures { λ r. ⌜ left r (now (out .exit)) ≡ handed bank (settingsPlayed bank settings registration (silence n)) (now (out .entry)) ⌝ }
+    ensures { λ r. ⌜ handedBack r (now (out .exit)) ≡ handed bank (settingsPlayed bank settings registration (silence n)) (now (out .entry)) ⌝ }
 {
     let mut buffer = [0.0f32; 4097];
     let e = lent(n);
@@ -99,7 +99,7 @@ fn on_block(
     samples: &mut [f32],
     out: &mut [f32],
 ) -> Played
-    ensures { λ r. ⌜ left r (now (out .exit)) ≡ handed bank (settingsPlayed bank settings registration (now (samples .entry))) (now (out .entry)) ⌝ }
+    ensures { λ r. ⌜ handedBack r (now (out .exit)) ≡ handed bank (settingsPlayed bank settings registration (now (samples .entry))) (now (out .entry)) ⌝ }
 {
     let r = by_kind(bank, settings, registration, samples);
     hand_over(bank, r, samples, out)
@@ -147,7 +147,7 @@ fn by_kind(bank: Bank, settings: Settings, registration: [f32; 7], out: &mut [f3
 
 // The samples of an answered call, where they fit. Where they do not, the bank is the one before the call, as if there had been none.
 fn hand_over(before: Bank, r: Played, samples: &[f32], out: &mut [f32]) -> Played
-    ensures { λ q. ⌜ left q (now (out .exit)) ≡ handed before (madeOf r (now (samples .entry))) (now (out .entry)) ⌝ }
+    ensures { λ q. ⌜ handedBack q (now (out .exit)) ≡ handed before (madeOf r (now (samples .entry))) (now (out .entry)) ⌝ }
 {
     if r.outcome.answer != 0 {
         return r;

@@ -102,13 +102,13 @@ module _ {S A : Type 0} {o : Oscillator S A} {Valid : A → S → Type 0} {w e :
       block-balanced high one m before (moved ps) xs _ _ (rest k) (omega (arith, b, one s (values (moved ps)) x (k .valid) (first k)))
 
   -- what the samples leave, from the counts c on
-  pub record Leaves (s : S) (c : Counts) (used : List Float) (h : Heard S) : Type 0 where
+  pub record BlockAccount (s : S) (c : Counts) (used : List Float) (h : Heard S) : Type 0 where
     pub valid : Valid a (h .state)
     pub cycles : ℕ
     pub counted : h .counts .cycles ≡ c .cycles + cycles
     pub told : Told (o .phase) w e s (h .state) cycles used
 
-  pub block-told : (m : ℕ) (ps : List ParameterInterpolator) (xs : List Float) (s : S) (c : Counts) → Coming m ps xs s → Leaves s c (column (o .phase-step) (stepsOf m ps)) (play (o .sample a) s c (stepsOf m ps) xs)
+  pub block-told : (m : ℕ) (ps : List ParameterInterpolator) (xs : List Float) (s : S) (c : Counts) → Coming m ps xs s → BlockAccount s c (column (o .phase-step) (stepsOf m ps)) (play (o .sample a) s c (stepsOf m ps) xs)
   unfolding play stepsOf column
   block-told zero ps xs s c k = record { valid = k .valid; cycles = 0; counted = sym (add-zero (c .cycles)); told = stood }
   block-told (suc m) ps [] s c k = absurd (omega (arith, k .long))

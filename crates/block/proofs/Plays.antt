@@ -13,7 +13,7 @@ use Rattle.block.specs.declared.Counts.{Counts}
 use Rattle.rooms.specs.declared.Room.{Room}
 use Rattle.rooms.specs.declared.Found.{Found}
 use Rattle.rooms.specs.declared.Found.the-variants.{Outside, Nowhere}
-use Rattle.block.specs.Counting.{noCounts, plus, wrapped, oneIf}
+use Rattle.block.specs.Counting.{noCounts, plus, modulo32, oneIf}
 use Rattle.rooms.specs.Steps.{moved, values, stepsOf, allIn, later, firstOutside}
 use Rattle.block.specs.Play.{Sample, Heard}
 use Rattle.block.specs.Limits.{Few}
@@ -44,7 +44,7 @@ few-most h f = record { cycles = omega (arith, f .cycles); rises = omega (arith,
 in-32 : (n : ℕ) → n ≤ 8194 → n % 2 ^ 32 ≡ n
 in-32 n h = mod-eq-of-lt {n = n} {m = 2 ^ 32} (omega arith)
 
-pub few-fit : {i : ℕ} {c : Counts} → i ≤ 4097 → Few i c → wrapped c ≡ c
+pub few-fit : {i : ℕ} {c : Counts} → i ≤ 4097 → Few i c → modulo32 c ≡ c
 few-fit {i} {c} h f =
     rw (in-32 (c .cycles) (omega (arith, f .cycles)), in-32 (c .rises) (omega (arith, f .rises)), in-32 (c .falls) (omega (arith, f .falls)), in-32 (c .cuts) (omega (arith, f .cuts)))
 

@@ -2,7 +2,7 @@
 -- Assumes nothing.
 use mathlib.Core.Path.{_≡_, refl, sym, _∙_, ap, subst}
 use mathlib.Core.List.{List, [], _∷_, append-nil}
-use Prim.Native.Nat.{ℕ, suc, _+_, _≤_, _<_}
+use Prim.Native.Nat.{ℕ, suc, _+_, _≤_, _<_, _-_}
 use native.Mathlib.Numerals.{add-one}
 use native.Mathlib.Omega.{arith}
 use lib.ListN.{length, getD, take, drop, set, length-set, drop-of-length-le}
@@ -17,7 +17,7 @@ use Rattle.rooms.specs.declared.Found.the-variants.{Nowhere}
 use Rattle.rooms.specs.Steps.{moved, values, stepsOf, firstOutside}
 use Rattle.rooms.proofs.Places.{place}
 use Rattle.rooms.proofs.Padding.{used, used-length, moved-length, moved-used, value-used}
-use Rattle.block.specs.Counting.{noCounts, plus, wrapped}
+use Rattle.block.specs.Counting.{noCounts, plus, modulo32}
 use Rattle.block.specs.Play.{Sample, Heard, play}
 use Rattle.block.specs.Calls.{gave, done}
 use Rattle.block.specs.Limits.{Few}
@@ -72,7 +72,7 @@ module _ {S : Type 0} {make : S → List Float → Float → Sample S} {rooms : 
       turning-inside = first .0
 
       -- the sample is the definition's, and its counts are added up in 32 bits
-      module _ (keeps : Keeps make rooms Ok) {s' : S} {y : Float} {d k : Counts} (at-k : k ≡ wrapped (plus c d))
+      module _ (keeps : Keeps make rooms Ok) {s' : S} {y : Float} {d k : Counts} (at-k : k ≡ modulo32 (plus c d))
           (e : record { state = s'; sample = y; counts = d } ≡ make s (values (used rooms ps')) (getD out i nan)) where
         one-more : (m : ℕ) → play make s c (stepsOf (suc m) (used rooms ps)) (drop i out) ≡ after (y ∷ []) (play make s' (plus c d) (stepsOf m (used rooms ps')) (drop (suc i) out))
         unfolding play stepsOf

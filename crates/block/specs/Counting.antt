@@ -21,8 +21,8 @@ total c [] = c
 total c (d ∷ rest) = total (plus c d) rest
 
 -- as 32-bit numbers hold them
-abbrev pub wrapped : Counts → Counts
-wrapped c = record {
+abbrev pub modulo32 : Counts → Counts
+modulo32 c = record {
   cycles = c .cycles % 2 ^ 32;
   rises = c .rises % 2 ^ 32;
   falls = c .falls % 2 ^ 32;

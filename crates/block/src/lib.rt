@@ -1,7 +1,7 @@
 // What a call answers and counts, for every oscillator.
 ghost use mathlib.Core.Path.{_≡_};
 ghost use Rattle.block.specs.Answers.{numberOf, indexOf};
-ghost use Rattle.block.specs.Counting.{noCounts, plus, wrapped, oneIf};
+ghost use Rattle.block.specs.Counting.{noCounts, plus, modulo32, oneIf};
 
 // 01, "Answer numbers".
 pub enum Answer {
@@ -68,7 +68,7 @@ pub fn none() -> Counts
 
 // The sum of two, each count modulo 2^32. A block's counts never come near that.
 pub fn sum(a: Counts, b: Counts) -> Counts
-    ensures { λ r. ⌜ r ≡ wrapped (plus a b) ⌝ }
+    ensures { λ r. ⌜ r ≡ modulo32 (plus a b) ⌝ }
 {
     Counts {
         cycles: std::num::wrapping_add_u32(a.cycles, b.cycles),

@@ -3,7 +3,7 @@
 use mathlib.Core.Path.{_≡_, refl, sym, _∙_, ap, subst}
 use mathlib.Core.Bool.{Bool, true, false, not, _&&_, cond, true≢false}
 use mathlib.Core.Logic.{_⊎_, inl, inr, ⊎-elim}
-use Prim.Native.Nat.{ℕ, suc, _+_, _*_, _%_, _^_, _≤_, _<_}
+use Prim.Native.Nat.{ℕ, suc, _+_, _*_, _%_, _^_, _≤_, _<_, _-_}
 use native.Mathlib.Nat.{mod-eq-of-lt}
 use native.Mathlib.Omega.{arith}
 use borrow.Author.Tests.{not-true, not-false}
@@ -42,15 +42,15 @@ again e = cond (lt (e .phase) one32) 0 1
 one-more : {n : ℕ} → n ≤ 1 → (n + 1) % 2 ^ 32 ≡ n + 1
 one-more {n} h = mod-eq-of-lt {n = n + 1} {m = 2 ^ 32} (omega arith)
 
--- the loop has come from e₀ to e, and `left` turns may follow this one
+-- the loop has come from e₀ to e, and `more` turns may follow this one
 pub record Going (x : Crosses) (e₀ e : Edge) : Type 0 where
   pub narrow : Under (x .width) cycle
-  pub left : ℕ
-  pub same : turnsOf x (suc left) e ≡ looped x e₀
-  pub last : left ≡ 0 → lt (e .phase) one32 ≡ true
+  pub more : ℕ
+  pub same : turnsOf x (suc more) e ≡ looped x e₀
+  pub last : more ≡ 0 → lt (e .phase) one32 ≡ true
   pub phase : UpTo (e .phase) (21233664 * tick)
-  pub rises : e .crossings .rises + left ≤ 1
-  pub falls : e .crossings .falls + left ≤ 1
+  pub rises : e .crossings .rises + more ≤ 1
+  pub falls : e .crossings .falls + more ≤ 1
   pub balance : e .crossings .rises + oneIf (e₀ .high) ≡ e .crossings .falls + oneIf (e .high)
 
 -- r is e after the first half of a turn that does not stop there
@@ -61,7 +61,7 @@ pub record Risen (x : Crosses) (e r : Edge) : Type 0 where
 pub going-start : {x : Crosses} {e : Edge} → Crossable (x .width) e → Going x e e
 going-start {x} {e} h = record {
   narrow = h .narrow;
-  left = 1;
+  more = 1;
   same = refl;
   last = λ z. absurd (omega arith);
   phase = h .phase;
@@ -128,7 +128,7 @@ module _ {x : Crosses} {e₀ e : Edge} (g : Going x e₀ e) where
   -- the loop ends in the first half of a turn
   module _ (h : not (e .high) ≡ true) (l : lt (e .phase) (x .width) ≡ true) where
     pub ends-low : e ≡ looped x e₀
-    ends-low = sym (stop-low x e (g .left) h l) ∙ g .same
+    ends-low = sym (stop-low x e (g .more) h l) ∙ g .same
 
     crossed-low : Crossed (e₀ .high) e
     crossed-low = record {
@@ -149,7 +149,7 @@ module _ {x : Crosses} {e₀ e : Edge} (g : Going x e₀ e) where
     -- or in the second
     module _ (l : lt (r .phase) one32 ≡ true) where
       pub ends-high : r ≡ looped x e₀
-      ends-high = sym (stop-high w (g .left) l) ∙ g .same
+      ends-high = sym (stop-high w (g .more) l) ∙ g .same
 
       crossed-high : Crossed (e₀ .high) r
       crossed-high = record {
@@ -163,10 +163,10 @@ module _ {x : Crosses} {e₀ e : Edge} (g : Going x e₀ e) where
 
     -- or it goes on, with a fall: only the first turn does
     module _ (l : lt (r .phase) one32 ≡ false) where
-      not-last : g .left ≡ 0 → ⊥
+      not-last : g .more ≡ 0 → ⊥
       not-last z = absurd (true≢false (sym (g .last z) ∙ same-test w l))
 
-      first : g .left ≡ 1
+      first : g .more ≡ 1
       first = omega (arith, g .rises, not-last)
 
       wrapped : At (x .fall r .phase) (reached .n - cycle)
@@ -181,7 +181,7 @@ module _ {x : Crosses} {e₀ e : Edge} (g : Going x e₀ e) where
       fall-goes : Going x e₀ (x .fall r)
       fall-goes = record {
         narrow = g .narrow;
-        left = 0;
+        more = 0;
         same = sym (turn-on w 1 l) ∙ ap (λ (k : ℕ). turnsOf x (suc k) e) (sym first) ∙ g .same;
         last = λ z. below-again;
         phase = record { n = reached .n - cycle; at = wrapped; most = omega (arith, reached .most) };
@@ -201,8 +201,8 @@ module _ {x : Crosses} {e₀ e : Edge} (g : Going x e₀ e) where
             let b : again e ≡ 1 = ap (λ (t : Bool). cond t 0 1) (same-test w l) in
             omega (arith, a, b)
 
--- however many turns may follow, e comes to r, and there the loop has left by its own break
-record Leaves (x : Crosses) (high : Bool) (e : Edge) : Type 0 where
+-- however many turns may follow, e comes to r, and there the loop has more by its own break
+record Ends (x : Crosses) (high : Bool) (e : Edge) : Type 0 where
   r : Edge
   same : (k : ℕ) → turnsOf x (suc k) e ≡ r
   crossed : Crossed high r
@@ -216,36 +216,36 @@ record GoesOn (x : Crosses) (e₀ e : Edge) : Type 0 where
   is : lt (f .phase) one32 ≡ true
 
 module _ {x : Crosses} {e₀ e : Edge} (g : Going x e₀ e) where
-  second-half : {r : Edge} → Risen x e r → (b : Bool) → lt (r .phase) one32 ≡ b → Leaves x (e₀ .high) e ⊎ GoesOn x e₀ e
+  second-half : {r : Edge} → Risen x e r → (b : Bool) → lt (r .phase) one32 ≡ b → Ends x (e₀ .high) e ⊎ GoesOn x e₀ e
   second-half {r} w true l = inl (record { r = r; same = λ k. stop-high w k l; crossed = crossed-high g w l })
   second-half {r} w false l = inr (record { f = x .fall r; same = λ k. turn-on w k l; going = fall-goes g w l; was = same-test w l; is = below-again g w l })
 
-  first-half : (b c : Bool) → not (e .high) ≡ b → lt (e .phase) (x .width) ≡ c → Leaves x (e₀ .high) e ⊎ GoesOn x e₀ e
+  first-half : (b c : Bool) → not (e .high) ≡ b → lt (e .phase) (x .width) ≡ c → Ends x (e₀ .high) e ⊎ GoesOn x e₀ e
   first-half false c h l = second-half (stays-high h refl) (lt (e .phase) one32) refl
   first-half true true h l = inl (record { r = e; same = λ k. stop-low x e k h l; crossed = crossed-low g h l })
   first-half true false h l = second-half (rises-low h l refl) (lt (x .rise e .phase) one32) refl
 
-  one-turn : Leaves x (e₀ .high) e ⊎ GoesOn x e₀ e
+  one-turn : Ends x (e₀ .high) e ⊎ GoesOn x e₀ e
   one-turn = first-half (not (e .high)) (lt (e .phase) (x .width)) refl refl
 
 -- the loop leaves by its own break: in the first turn, or in the second
-pub record Left (x : Crosses) (e : Edge) : Type 0 where
+pub record Ended (x : Crosses) (e : Edge) : Type 0 where
   pub r : Edge
   pub same : (j : ℕ) → turnsOf x (suc (suc j)) e ≡ r
   pub crossed : Crossed (e .high) r
 
-pub leaves : {x : Crosses} {e : Edge} → Crossable (x .width) e → Left x e
-leaves {x} {e} h = ⊎-elim in-one in-two (one-turn (going-start h))
+pub loop-ends : {x : Crosses} {e : Edge} → Crossable (x .width) e → Ended x e
+loop-ends {x} {e} h = ⊎-elim in-one in-two (one-turn (going-start h))
   where
-    in-one : Leaves x (e .high) e → Left x e
+    in-one : Ends x (e .high) e → Ended x e
     in-one l = record { r = l .r; same = λ j. l .same (suc j); crossed = l .crossed }
 
-    in-two : GoesOn x e e → Left x e
+    in-two : GoesOn x e e → Ended x e
     in-two o =
         ⊎-elim
-        (λ (l : Leaves x (e .high) (o .f)). record { r = l .r; same = λ j. o .same (suc j) ∙ l .same j; crossed = l .crossed })
+        (λ (l : Ends x (e .high) (o .f)). record { r = l .r; same = λ j. o .same (suc j) ∙ l .same j; crossed = l .crossed })
         (λ (p : GoesOn x e (o .f)). absurd (true≢false (sym (o .is) ∙ p .was)))
         (one-turn (o .going))
 
 pub crossed-of : (x : Crosses) {e : Edge} → Crossable (x .width) e → Crossed (e .high) (looped x e)
-crossed-of x {e} h = let l = leaves {x = x} h in subst (Crossed (e .high)) (sym (l .same 0)) (l .crossed)
+crossed-of x {e} h = let l = loop-ends {x = x} h in subst (Crossed (e .high)) (sym (l .same 0)) (l .crossed)

@@ -1,7 +1,7 @@
 -- binary32 values that are not negative. `At x n` says that x fits binary32, is finite, is not below zero (either zero will do), and is n units of 2 ^ -149.
 -- Each operation on such values is `rnd` on the numbers, and each comparison is the numbers' comparison. Assumes nothing.
 use mathlib.Core.Path.{_≡_, refl, sym, ap, _∙_, subst}
-use Prim.Native.Nat.{ℕ, zero, suc, _+_, _*_, _^_, _≤_, _<_, zero-le}
+use Prim.Native.Nat.{ℕ, zero, suc, _+_, _*_, _^_, _≤_, _<_, zero-le, _-_}
 use native.Mathlib.Nat.{lt-irrefl, zero-lt-suc, zero-mul, mul-right-comm, mul-pos, mul-lt-mul-of-pos-right, lt-of-mul-lt-mul-right, eq-of-mul-eq-mul-right, add-zero, sub-zero}
 use native.Mathlib.Omega.{arith}
 use borrow.Author.Tests.{leb-true}

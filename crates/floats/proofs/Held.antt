@@ -1,6 +1,6 @@
 -- What binary32 holds: m * 2 ^ j units of 2 ^ -149, with an m of 24 digits. Assumes nothing.
 use mathlib.Core.Path.{_≡_, sym, ap, _∙_}
-use Prim.Native.Nat.{ℕ, zero, suc, _+_, _*_, _%_, _^_, _≤_, _<_}
+use Prim.Native.Nat.{ℕ, zero, suc, _+_, _*_, _%_, _^_, _≤_, _<_, _-_}
 use native.Mathlib.Nat.{le-of-suc-le-suc, lt-of-not-le, not-le-of-lt, zero-mul, mul-one, mul-assoc, mul-pos}
 use mathlib.Core.Bool.{Bool, _&&_}
 use lib.IntN.{ℤ, pos, negsuc}

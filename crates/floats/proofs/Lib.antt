@@ -7,7 +7,7 @@ pub mod Held
 pub mod Signed
 pub mod At
 pub mod Ticks
-pub mod Turn
+pub mod PhaseSteps
 pub mod Ranges
 pub mod PowerOfTwo
 pub mod WholeNumbers

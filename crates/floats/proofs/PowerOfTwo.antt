@@ -1,6 +1,6 @@
 -- Products by a power of two, which are exact, and whole parts. Together they decide a wrap by `(s * 2 ^ b) as u32 >= 2 ^ b`. Assumes nothing.
 use mathlib.Core.Path.{_≡_, sym, ap, _∙_, subst}
-use Prim.Native.Nat.{ℕ, _+_, _*_, _/_, _^_, _<_, min}
+use Prim.Native.Nat.{ℕ, _+_, _*_, _/_, _^_, _<_, min, _-_}
 use native.Mathlib.Nat.{zero-lt-suc, zero-div, mul-one, mul-comm, mul-assoc, mul-le-mul-right, le-of-mul-le-mul-right, le-div-iff-mul-le}
 use native.Mathlib.Omega.{arith}
 use borrow.Author.Tests.{leb-true, le-leb}

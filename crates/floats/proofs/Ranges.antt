@@ -15,7 +15,7 @@ use Rattle.floats.proofs.Rounding.{rnd, rnd-mono, rnd-exact}
 use Rattle.floats.proofs.Order.{lt→le}
 use Rattle.floats.proofs.At.{At, sizeOf, at-of, at-rnd, at-huge, mul-at, div-at, lt-at, le-at}
 use Rattle.floats.proofs.Ticks.{tick, cycle, zero-at, one-at, wrap-1, below-one}
-use Rattle.floats.proofs.Turn.{turn-1, turn-sum}
+use Rattle.floats.proofs.PhaseSteps.{wraps-at-1, phase-sum}
 
 pub record Under (x : Float) (B : ℕ) : Type 0 where
   pub n : ℕ
@@ -109,6 +109,6 @@ mul-le {a = a} {b = b} p q h =
 -- after a wrap the phase is the step at most, so the reset time is at most 1
 pub reset-time : {p f : Float} {a b : ℕ} → At p a → At f b → 0 < b → a < cycle → b ≤ 4456448 * tick → le one32 (p ⊕ f) ≡ true → UpTo ((p ⊕ f ⊖ one32) ⊘ f) cycle
 reset-time P F B hp hf t =
-    let s = turn-sum turn-1 P F (omega arith) in
+    let s = phase-sum wraps-at-1 P F (omega arith) in
     let h : cycle ≤ s .n = passed-le one-at (s .at) t in
     div-one (wrap-1 (s .at) h (omega (arith, s .top))) F B (omega (arith, s .near, below-one P hp))

@@ -5,7 +5,7 @@
 -- spare (`less`). What the kit has not are the bounds on an error (`closest-err`, `rnd-err`, `rnd-off`) and `rnd-exact` over whole numbers. Assumes nothing.
 use mathlib.Core.Path.{_≡_, sym, ap, _∙_, subst}
 use mathlib.Core.Logic.{inl, inr}
-use Prim.Native.Nat.{ℕ, zero, suc, _+_, _*_, _/_, _%_, _^_, _≤_, _<_, zero-le, compare, Ordering, Ordering·lt, Ordering·eq, Ordering·gt, compare·zero-suc}
+use Prim.Native.Nat.{ℕ, zero, suc, _+_, _*_, _/_, _%_, _^_, _≤_, _<_, zero-le, compare, Ordering, Ordering·lt, Ordering·eq, Ordering·gt, compare·zero-suc, _-_}
 use native.Mathlib.Nat.{le-trans, le-of-eq, le-antisymm, lt-irrefl, lt-of-le-of-lt, eq-or-lt-of-le, zero-lt-suc, zero-mul, mul-one, one-mul, mul-comm, mul-assoc, mul-left-comm, mul-le-mul-left, mul-le-mul-right, mul-pos, mod-lt, div-add-mod', div-one, div-div-eq-div-mul, le-div-iff-mul-le, div-lt-iff-lt-mul, mul-div-cancel, mul-mod-left, pow-suc}
 use native.Mathlib.Omega.{arith}
 use mathlib.Core.Bool.{not}

@@ -1,12 +1,12 @@
 -- binary32 values of either sign. `Is x p q` says that x fits binary32, is finite, and is p - q units of 2 ^ -149.
 -- Sums, differences, and products and quotients by a value that is not negative, are `rnd` on such numbers. Assumes nothing.
 use mathlib.Core.Path.{_≡_, refl, sym, ap, _∙_, subst}
-use Prim.Native.Nat.{ℕ, zero, suc, _+_, _*_, _/_, _^_, _≤_, _<_}
+use Prim.Native.Nat.{ℕ, zero, suc, _+_, _*_, _/_, _^_, _≤_, _<_, _-_}
 use native.Mathlib.Nat.{lt-irrefl, zero-lt-suc, zero-mul, mul-zero, mul-one, mul-comm, mul-assoc, mul-left-comm, mul-sub, add-zero, mul-pos, mul-div-cancel}
 use native.Mathlib.Omega.{arith}
 use borrow.Author.Tests.{ne-eqb}
 use mathlib.Core.Bool.{Bool, true, false, not, _&&_, cond}
-use lib.IntN.{ℤ, pos, negℤ, _+ℤ_, +ℤ-negℤ-cancel, negℤ-negℤ, negℤ-+ℤ, +ℤ-comm}
+use lib.IntN.{ℤ, pos, negℤ, _+ℤ_, +ℤ-negℤ-cancel, negℤ-negℤ, negℤ-+ℤ, +ℤ-comm, _-ℤ_}
 use lib.Dec.{T, ltb, leb, eqb, ltb→lt, nltb→le}
 use lib.Pow.{pow-pos}
 use lib.Ieee.{Float, nan, inf, fin, binary32, up, down, unlike, round, sum, neg, add, sub, mul, div, lt, le, eq, fits}

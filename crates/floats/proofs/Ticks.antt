@@ -1,7 +1,7 @@
 -- The lengths that a phase is measured in. A tick is 2 ^ -24, and 1.0, a cycle, is 16,777,216 ticks: below 2.0 a sum rounds by a tick at most, and 1.0 is taken off exactly.
 -- `tick` stays shut, since `omega` reads no numeral above 38 digits: so every bound is linear in it. Assumes nothing.
 use mathlib.Core.Path.{_≡_, refl, sym, ap, _∙_, subst}
-use Prim.Native.Nat.{ℕ, suc, _+_, _*_, _^_, _≤_, _<_}
+use Prim.Native.Nat.{ℕ, suc, _+_, _*_, _^_, _≤_, _<_, _-_}
 use native.Mathlib.Nat.{le-trans, le-of-eq, le-of-lt, lt-of-le-of-lt, lt-of-not-le, not-le-of-lt, mul-assoc, mul-comm, pow-suc, suc-mul, mul-sub, mul-le-mul-right, lt-of-mul-lt-mul-right, sub-le, add-le-add-iff-right}
 use native.Mathlib.Omega.{arith}
 use mathlib.Core.Bool.{Bool, true, false, not}
@@ -116,7 +116,7 @@ pub record Sum (z : Float) (a b B e : ℕ) : Type 0 where
   pub n : ℕ
   pub at : At z n
   pub near : Within n (a + b) e
-  pub left : a ≤ n
+  pub least : a ≤ n
   pub top : n ≤ B
 
 pub sum-with : {x y : Float} {a b : ℕ} (B e : ℕ) → At x a → At y b → rnd B 1 ≡ B → B < huge → a + b ≤ B → Within (rnd (a + b) 1) (a + b) e → Sum (x ⊕ y) a b B e
@@ -126,7 +126,7 @@ sum-with {x} {y} {a} {b} B e p q r h l w =
       n = rnd (a + b) 1;
       at = add-at p q (lt-of-le-of-lt t h);
       near = w;
-      left = rnd-dn (at-rnd p) (omega arith);
+      least = rnd-dn (at-rnd p) (omega arith);
       top = t;
     }
 

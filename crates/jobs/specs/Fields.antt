@@ -10,8 +10,8 @@ between first last i = leb first i && leb i last
 
 -- The table's rows: kind, flags, block length, step count, frequency, master frequency or gain, pulse width or shape, waveshape,
 -- phase modulation, registration. No kind uses bytes 56 to 63.
-unfoldable pub usedBy : ℕ → ℕ → Bool
-usedBy kind i =
+unfoldable pub byteUsed : ℕ → ℕ → Bool
+byteUsed kind i =
     (((((((((between 0 0 i
     || (between 1 1 i && eqb kind 1))
     || between 2 3 i)
@@ -25,7 +25,7 @@ usedBy kind i =
 
 -- "Unused bytes must be zero": byte i of a record of this kind
 abbrev pub byteFine : ℕ → ℕ → ℕ → Bool
-byteFine kind i byte = usedBy kind i || eqb byte 0
+byteFine kind i byte = byteUsed kind i || eqb byte 0
 
 -- the same of the bytes from byte i on
 unfoldable pub unusedZeroFrom : ℕ → ℕ → List ℕ → Bool

@@ -1,6 +1,6 @@
 // Which bytes of a record its kind uses, and whether all others are zero.
 ghost use mathlib.Core.Path.{_≡_};
-ghost use Rattle.jobs.specs.Fields.{between, usedBy, byteFine, unusedZero};
+ghost use Rattle.jobs.specs.Fields.{between, byteUsed, byteFine, unusedZero};
 
 // Whether every byte that the kind leaves unused is zero. It stops at the first that is not.
 pub(crate) fn zero(kind: u8, part: &[u8]) -> bool
@@ -25,7 +25,7 @@ fn fine(kind: u8, i: usize, byte: u8) -> bool
 
 // The rows of the table of fields, each with the kinds that use it.
 fn used(kind: u8, i: usize) -> bool
-    ensures { λ r. ⌜ r ≡ usedBy kind i ⌝ }
+    ensures { λ r. ⌜ r ≡ byteUsed kind i ⌝ }
 {
     among(0, 0, i)
         | (among(1, 1, i) & (kind == 1))

@@ -7,7 +7,7 @@ use lib.ListN.{getD}
 use lib.Ieee.{Float}
 use Rattle.floats.specs.F32.{zero32}
 use Rattle.floats.proofs.Ticks.{tick, cycle}
-use Rattle.floats.proofs.Turn.{Step}
+use Rattle.floats.proofs.PhaseSteps.{Step}
 use Rattle.floats.proofs.Ranges.{Positive}
 use Rattle.rooms.specs.Steps.{allIn}
 use Rattle.rooms.proofs.RangeLaws.{frequency-step, step-frequency}
@@ -18,10 +18,10 @@ use Rattle.nes_triangle.specs.declared.State.{State}
 use Rattle.nes_triangle.specs.declared.depth.Depth.{Depth}
 use Rattle.nes_triangle.specs.declared.sample.Sampled.{Sampled}
 use Rattle.nes_triangle.specs.Depth.{depthOf}
-use Rattle.nes_triangle.specs.Sample.{turnOf, finish, sampleOf, sampleAt}
+use Rattle.nes_triangle.specs.Sample.{steppedOf, finish, sampleOf, sampleAt}
 use Rattle.nes_triangle.specs.Block.{rooms}
 use Rattle.nes_triangle.specs.Private.{Below, Ready, Passed}
-use Rattle.nes_triangle.proofs.Turns.{turned}
+use Rattle.nes_triangle.proofs.Stepping.{step-law}
 
 -- what one sample does to a phase of a units with a step of b, and to all else
 pub record Law (bits : ℕ) (frequency : Float) (a b : ℕ) (t : Sampled) : Type 0 where
@@ -35,12 +35,12 @@ pub record Law (bits : ℕ) (frequency : Float) (a b : ℕ) (t : Sampled) : Type
 sample-law : (d : Depth) (s : State) (frequency : Float) (h : Ready d s frequency) → Law (h .bits) frequency (h .valid .phase .n) (h .some .n) (sampleOf d s frequency)
 unfolding sampleOf finish
 sample-law d s frequency h =
-    let t = turned d s frequency h in
+    let t = step-law d s frequency h in
     record {
       phase = t .phase;
-      step = record { n = turnOf d s frequency .«next_step»; is = refl; under = t .step };
+      step = record { n = steppedOf d s frequency .«next_step»; is = refl; under = t .step };
       stored = refl;
-      rises = one-most (turnOf d s frequency .changed);
+      rises = one-most (steppedOf d s frequency .changed);
       falls = refl;
       cuts = refl;
     }

@@ -1,6 +1,6 @@
 -- The laws of the NES triangle.
 pub mod Depths
-pub mod Turns
+pub mod Stepping
 pub mod Keeping
 pub mod Calls
 pub mod Phase

@@ -1,4 +1,5 @@
 -- The NES triangle as an oscillator of `block`: nes_triangle_oscillator.rs, lines 34 to 141, with 01's checks before it. Assumes nothing.
+use Rattle.block.specs.Checks.{_unless_}
 use mathlib.Core.Bool.{Bool, false}
 use mathlib.Core.List.{List, [], _∷_}
 use Prim.Native.Nat.{ℕ, _^_}
@@ -70,5 +71,5 @@ abbrev pub renderOf : State → Float → ℕ → List Float → Call State
 renderOf s frequency bits xs = callOf nesTriangle s (record { frequency = frequency; bits = bits; buffer = xs })
 
 -- what a call returned and left in the buffer, in 01's numbers
-abbrev pub left : Rendered → List Float → Call State
-left r xs = gave (r .answer) (r .state) (r .counts) xs
+abbrev pub asCall : Rendered → List Float → Call State
+asCall r xs = gave (r .answer) (r .state) (r .counts) xs

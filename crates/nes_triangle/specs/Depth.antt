@@ -1,6 +1,6 @@
 -- The depth of a call of the NES triangle: nes_triangle_oscillator.rs, lines 37 to 45. Assumes nothing.
 use mathlib.Core.Bool.{Bool, _&&_, cond}
-use Prim.Native.Nat.{ℕ, _/_, _^_}
+use Prim.Native.Nat.{ℕ, _/_, _^_, _-_}
 use lib.Dec.{leb, eqb}
 use lib.Ieee.{Float}
 use Rattle.floats.specs.F32.{whole32, _⊘_, two32, four32}

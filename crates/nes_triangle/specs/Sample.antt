@@ -2,7 +2,7 @@
 -- 0 up, and no difference of steps goes below 0: a wrap has come to the number of steps, and a step is at most the top. Assumes nothing.
 use mathlib.Core.Bool.{Bool, not, _&&_, _||_, cond}
 use mathlib.Core.List.{List}
-use Prim.Native.Nat.{ℕ}
+use Prim.Native.Nat.{ℕ, _-_}
 use lib.Dec.{ltb, leb, eqb}
 use lib.IntN.{pos}
 use lib.ListN.{getD}
@@ -15,7 +15,7 @@ use Rattle.block.specs.Counting.{oneIf}
 use Rattle.block.specs.Play.{Sample}
 use Rattle.nes_triangle.specs.declared.State.{State}
 use Rattle.nes_triangle.specs.declared.depth.Depth.{Depth}
-use Rattle.nes_triangle.specs.declared.sample.Turn.{Turn}
+use Rattle.nes_triangle.specs.declared.sample.Stepped.{Stepped}
 use Rattle.nes_triangle.specs.declared.sample.Gains.{Gains}
 use Rattle.nes_triangle.specs.declared.sample.Samples.{Samples}
 use Rattle.nes_triangle.specs.declared.sample.Sampled.{Sampled}
@@ -30,8 +30,8 @@ abbrev pub wrapStep : ℕ → ℕ → Bool → ℕ
 wrapStep nextStep numSteps wrap = cond wrap (nextStep - numSteps) nextStep
 
 -- lines 55 and 78 to 87: the step is taken, and the phase wraps where the whole part has changed and come to the number of steps
-unfoldable pub turnOf : Depth → State → Float → Turn
-turnOf d s frequency =
+unfoldable pub steppedOf : Depth → State → Float → Stepped
+steppedOf d s frequency =
     let reached = s .phase ⊕ frequency in
     let nextStep = wholePart (reached ⊗ d .«num_steps_f») in
     let changed = not (isWhole nextStep (s .step)) in
@@ -77,7 +77,7 @@ stepSign numSteps half nextStep =
     (cond (eqb nextStep 0 || eqb nextStep half) zero32 discontinuity)
 
 -- a step of the NES triangle, lines 100 to 105
-unfoldable pub edgeOf : Turn → Float → Float → Float → Samples → Samples
+unfoldable pub edgeOf : Stepped → Float → Float → Float → Samples → Samples
 edgeOf w numStepsF frequency discontinuity x =
     let frac = w .phase ⊗ numStepsF ⊖ whole32 (w .«next_step») in
     let t = frac ⊘ (frequency ⊗ numStepsF) in
@@ -100,7 +100,7 @@ troughOf here phase frequency discontinuity x =
     x
 
 -- lines 64 to 117 but for what the turn does: the peak is met before the wrap, the step and the trough after it
-unfoldable pub soundOf : Depth → State → Turn → Gains → Float → Samples
+unfoldable pub soundOf : Depth → State → Stepped → Gains → Float → Samples
 soundOf d s t g frequency =
     let corner = four32 ⊗ frequency ⊗ g .«tri_gain» in
     let peaked = s .ascending && le half32 (t .reached) in
@@ -120,7 +120,7 @@ triLevel phase = cond (lt phase half32) (two32 ⊗ phase) (two32 ⊖ two32 ⊗ p
 -- Lines 119 to 140: line 140 stores what the next sample starts with. The triangle ascends again from a wrap on (line 115), and no longer from
 -- its top on (line 75). The source stores the frequency as it drops its interpolator, and what it stores is the last step. 01 counts a wrap as
 -- a cycle, and a rise where the whole part, taken before any wrap, differs from the old step.
-unfoldable pub finish : Depth → State → Turn → Gains → Samples → Float → Sampled
+unfoldable pub finish : Depth → State → Stepped → Gains → Samples → Float → Sampled
 finish d s t g x frequency = record {
   state = record {
     phase = t .phase;
@@ -136,7 +136,7 @@ finish d s t g x frequency = record {
 -- one sample, lines 54 to 140
 unfoldable pub sampleOf : Depth → State → Float → Sampled
 sampleOf d s frequency =
-    let t = turnOf d s frequency in
+    let t = steppedOf d s frequency in
     let g = gainsOf d frequency in
     finish d s t g (soundOf d s t g frequency) frequency
 

@@ -7,7 +7,7 @@ ghost use Rattle.block.specs.Calls.{run};
 ghost use Rattle.block.specs.Fit.{Fit, Playable, playedOf};
 ghost use Rattle.nes_triangle.specs.State.{newState, initState};
 ghost use Rattle.nes_triangle.specs.Sample.{sampleAt};
-ghost use Rattle.nes_triangle.specs.Block.{stepIn, stateIn, parametersIn, interpolators as interpolatorsTo, rooms, renderOf, left};
+ghost use Rattle.nes_triangle.specs.Block.{stepIn, stateIn, parametersIn, interpolators as interpolatorsTo, rooms, renderOf, asCall};
 ghost use Rattle.nes_triangle.specs.Private.{Passed, refused};
 use block::Answer;
 use block::Counts;
@@ -62,7 +62,7 @@ pub struct Rendered {
 
 // Renders a block into `out`, from the frequency that the last block ended with to this one, with 2^num_bits steps a cycle.
 pub fn render(state: State, frequency: f32, num_bits: u32, out: &mut [f32]) -> Rendered
-    ensures { λ r. ⌜ left r (now (out .exit)) ≡ renderOf state frequency «num_bits» (now (out .entry)) ⌝ }
+    ensures { λ r. ⌜ asCall r (now (out .exit)) ≡ renderOf state frequency «num_bits» (now (out .entry)) ⌝ }
 {
     if out.len() > 4096 {
         return refuse(Answer::LongBlock, state);
@@ -131,7 +131,7 @@ fn drift_or_play(
     out: &mut [f32],
 ) -> Rendered
     requires { ⌜ Fit (Passed «num_bits») state (now out) ⌝ }
-    ensures { λ r. ⌜ left r (now (out .exit)) ≡ run (sampleAt «num_bits») rooms (used rooms p) state (now (out .entry)) ⌝ }
+    ensures { λ r. ⌜ asCall r (now (out .exit)) ≡ run (sampleAt «num_bits») rooms (used rooms p) state (now (out .entry)) ⌝ }
 {
     let kept = [
         Room::Frequency,
@@ -149,7 +149,7 @@ fn drift_or_play(
 // Every sample of the buffer.
 fn play(state: State, num_bits: u32, p: [ParameterInterpolator; 5], out: &mut [f32]) -> Rendered
     requires { ⌜ Playable (Passed «num_bits») rooms state (used rooms p) (now out) ⌝ }
-    ensures { λ r. ⌜ left r (now (out .exit)) ≡ playedOf (sampleAt «num_bits») state (used rooms p) (now (out .entry)) ⌝ }
+    ensures { λ r. ⌜ asCall r (now (out .exit)) ≡ playedOf (sampleAt «num_bits») state (used rooms p) (now (out .entry)) ⌝ }
 {
     let d = depth::of_bits(num_bits);
     let mut s = state;

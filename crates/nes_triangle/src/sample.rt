@@ -4,7 +4,7 @@ ghost use mathlib.Core.Path.{_≡_};
 ghost use mathlib.Core.Bool.{true};
 ghost use Prim.Native.Nat.{_≤_, _<_};
 ghost use Rattle.whole_part.specs.WholePart.{isWhole};
-ghost use Rattle.nes_triangle.specs.Sample.{wrapPhase, wrapStep, turnOf, gainsOf, peakOf, directionOf, stepSign, edgeOf, troughOf, soundOf, nesLevel, triLevel, finish as finished, sampleOf};
+ghost use Rattle.nes_triangle.specs.Sample.{wrapPhase, wrapStep, steppedOf, gainsOf, peakOf, directionOf, stepSign, edgeOf, troughOf, soundOf, nesLevel, triLevel, finish as finished, sampleOf};
 ghost use Rattle.nes_triangle.specs.Private.{Ready};
 use crate::State;
 use crate::depth::Depth;
@@ -24,7 +24,7 @@ pub struct Samples {
 }
 
 // Where a sample's step leads: the phase before any wrap and after it, the new step, and what happened on the way.
-pub struct Turn {
+pub struct Stepped {
     pub reached: f32,
     pub phase: f32,
     pub next_step: u32,
@@ -67,15 +67,15 @@ fn wrap_step(next_step: u32, num_steps: u32, wrap: bool) -> u32
 
 // Lines 55 and 78 to 87. The number of steps is a power of two and so the product exact: there is a wrap exactly where the phase has come to 1.
 // A state's step need not be that of its phase; then it changes though the phase has come to no other.
-fn advance(d: Depth, s: State, frequency: f32) -> Turn
-    ensures { λ r. ⌜ r ≡ turnOf d s frequency ⌝ }
+fn advance(d: Depth, s: State, frequency: f32) -> Stepped
+    ensures { λ r. ⌜ r ≡ steppedOf d s frequency ⌝ }
 {
     let reached = s.phase + frequency;
     let whole = whole_part::whole_part(reached * d.num_steps_f);
     let changed = !on_step(s, whole);
     let wrap = changed & (whole >= d.num_steps);
     let next_step = wrap_step(whole, d.num_steps, wrap);
-    Turn {
+    Stepped {
         reached,
         phase: wrap_phase(reached, wrap),
         next_step,
@@ -134,7 +134,7 @@ fn step_sign(num_steps: u32, half: u32, next_step: u32) -> f32
 }
 
 // The jump at a step of the NES triangle, lines 98 to 105, after the wrap and so with the phase and the step that it left.
-fn edge(x: Samples, t: Turn, num_steps_f: f32, frequency: f32, discontinuity: f32) -> Samples
+fn edge(x: Samples, t: Stepped, num_steps_f: f32, frequency: f32, discontinuity: f32) -> Samples
     ensures { λ r. ⌜ r ≡ edgeOf t «num_steps_f» frequency discontinuity x ⌝ }
 {
     if t.changed & (discontinuity != 0.0) {
@@ -165,7 +165,7 @@ fn trough(x: Samples, here: bool, phase: f32, frequency: f32, discontinuity: f32
 }
 
 // All discontinuities of a sample, in the source's order, since each is rounded into the same two sums. The peak is met before a wrap.
-fn sound(d: Depth, s: State, t: Turn, g: Gains, frequency: f32) -> Samples
+fn sound(d: Depth, s: State, t: Stepped, g: Gains, frequency: f32) -> Samples
     ensures { λ r. ⌜ r ≡ soundOf d s t g frequency ⌝ }
 {
     let start = Samples {
@@ -201,7 +201,7 @@ fn tri_level(phase: f32) -> f32
 
 // The end of a sample, lines 119 to 140. `ascending` is cleared at the top and set by a wrap, which comes later and so decides where both happen.
 // 01 counts a change of step as a rise.
-fn finish(d: Depth, s: State, t: Turn, g: Gains, x: Samples, frequency: f32) -> Sampled
+fn finish(d: Depth, s: State, t: Stepped, g: Gains, x: Samples, frequency: f32) -> Sampled
     requires { ⌜ (t .«next_step» ≤ d .top) × (t .«next_step» < 65536) ⌝ }
     ensures { λ r. ⌜ r ≡ finished d s t g x frequency ⌝ }
 {

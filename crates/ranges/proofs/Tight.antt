@@ -7,7 +7,7 @@ use Rattle.ranges.proofs.frequency_in
 use Rattle.ranges.proofs.parameter_frequency_in
 use Rattle.ranges.proofs.unit_in
 use Rattle.ranges.proofs.waveshape_in
-use Rattle.ranges.proofs.sixteen_in
+use Rattle.ranges.proofs.modulation_or_gain_in
 use Rattle.ranges.proofs.targets.clip
 use Rattle.ranges.proofs.targets.clamp_width
 
@@ -29,8 +29,8 @@ unit-in-tight κs a r q v w h k = (coincide h k, refl)
 pub waveshape-in-tight : Determines waveshape_in.ended waveshape_in.Reads.Learnt
 waveshape-in-tight κs a r q v w h k = (coincide h k, refl)
 
-pub sixteen-in-tight : Determines sixteen_in.ended sixteen_in.Reads.Learnt
-sixteen-in-tight κs a r q v w h k = (coincide h k, refl)
+pub modulation-or-gain-in-tight : Determines modulation_or_gain_in.ended modulation_or_gain_in.Reads.Learnt
+modulation-or-gain-in-tight κs a r q v w h k = (coincide h k, refl)
 
 pub clip-tight : Determines clip.ended clip.Reads.Learnt
 clip-tight κs a r q v w h k = (coincide h k, refl)

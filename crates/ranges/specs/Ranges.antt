@@ -29,8 +29,8 @@ abbrev pub waveshapeIn : Float → Bool
 waveshapeIn x = within (neg one32) two32 x
 
 -- a state's phase modulation or saw gain: -16 to 16
-abbrev pub sixteenIn : Float → Bool
-sixteenIn x = within (neg sixteen32) sixteen32 x
+abbrev pub modulationOrGainIn : Float → Bool
+modulationOrGainIn x = within (neg sixteen32) sixteen32 x
 
 -- a test for each value that has a range: all of them pass
 unfoldable pub allOf : List Bool → Bool

@@ -1,6 +1,6 @@
 // The ranges of 01 that more than one oscillator has, for states and parameters. A NaN lies outside each, since a comparison with it is false.
 ghost use mathlib.Core.Path.{_≡_};
-ghost use Rattle.ranges.specs.Ranges.{within as between, phaseIn, frequencyIn, parameterFrequencyIn, unitIn, waveshapeIn, sixteenIn};
+ghost use Rattle.ranges.specs.Ranges.{within as between, phaseIn, frequencyIn, parameterFrequencyIn, unitIn, waveshapeIn, modulationOrGainIn};
 
 pub mod targets;
 
@@ -53,8 +53,8 @@ pub fn waveshape_in(x: f32) -> bool
 }
 
 // A state's phase modulation, whose parameter is 8 at most, or saw gain, of which the parameters make 12 at most.
-pub fn sixteen_in(x: f32) -> bool
-    ensures { λ r. ⌜ r ≡ sixteenIn x ⌝ }
+pub fn modulation_or_gain_in(x: f32) -> bool
+    ensures { λ r. ⌜ r ≡ modulationOrGainIn x ⌝ }
 {
     within(-16.0, 16.0, x)
 }

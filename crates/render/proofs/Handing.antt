@@ -18,7 +18,7 @@ use Rattle.bank.specs.Bank.{initBank}
 use Rattle.render.specs.declared.Written.{Written}
 use Rattle.render.specs.declared.Written.the-variants.{NoRoom}
 use Rattle.render.specs.Line.{numberThen, lineOf}
-use Rattle.render.specs.Lists.{recordsFrom, runOf, numbered, linesOf, isJobList, textOf, answerIf, Handed, written, renderOf, countOf, left, newLines}
+use Rattle.render.specs.Lists.{recordsFrom, runOf, numbered, linesOf, isJobList, textOf, answerIf, Handed, written, renderOf, countOf, handedBack, newLines}
 use Rattle.render.specs.Private.{laid, Wrote, fittedOf}
 use Rattle.render.proofs.Digits.{decimal-long}
 use Rattle.render.proofs.Lists.{as-many, how-many, lines-as-many}
@@ -38,24 +38,24 @@ module _ (list : List ℕ) where
   few-records h = leb-true (length list) 65536 (and-both _ _ h .0)
 
 module _ (good : Bool) (text d : List ℕ) where
-  pub handed : (r : ℕ) (d' : List ℕ) → length text ≤ length d → Wrote d 0 text r d' → left (fittedOf good r) d' ≡ written (answerIf good) text d
+  pub handed : (r : ℕ) (d' : List ℕ) → length text ≤ length d → Wrote d 0 text r d' → handedBack (fittedOf good r) d' ≡ written (answerIf good) text d
   unfolding laid written
   handed r d' h w = rw (le-leb (length text) (length d) h, w .next, w .same, zero-add) (by-answer good)
     where
-      by-answer : (t : Bool) → left (fittedOf t (length text)) (text ++ drop (length text) d) ≡ record { number = answerNumber (answerIf t); count = length text; buffer = text ++ drop (length text) d }
+      by-answer : (t : Bool) → handedBack (fittedOf t (length text)) (text ++ drop (length text) d) ≡ record { number = answerNumber (answerIf t); count = length text; buffer = text ++ drop (length text) d }
       by-answer true = refl
       by-answer false = refl
 
-  pub not-handed : length d < length text → left NoRoom d ≡ written (answerIf good) text d
+  pub not-handed : length d < length text → handedBack NoRoom d ≡ written (answerIf good) text d
   unfolding written
   not-handed h = rw (lt-leb (length text) (length d) h)
 
 -- what a caller may read of the buffer afterwards
-pub inside : (r : Written) (d' : List ℕ) (answer : Answer) (text d : List ℕ) → left r d' ≡ written answer text d → countOf r ≤ length d'
+pub inside : (r : Written) (d' : List ℕ) (answer : Answer) (text d : List ℕ) → handedBack r d' ≡ written answer text d → countOf r ≤ length d'
 unfolding written
 inside r d' answer text d = go (leb (length text) (length d))
   where
-    go : (t : Bool) → left r d' ≡ cond t (record { number = answerNumber answer; count = length text; buffer = text ++ drop (length text) d }) (record { number = 9; count = 0; buffer = d })
+    go : (t : Bool) → handedBack r d' ≡ cond t (record { number = answerNumber answer; count = length text; buffer = text ++ drop (length text) d }) (record { number = 9; count = 0; buffer = d })
         → countOf r ≤ length d'
     go true h = omega (arith, ap (λ (x : Handed). x .count) h, ap (λ (x : Handed). length (x .buffer)) h, length-append text (drop (length text) d))
     go false h = omega (arith, ap (λ (x : Handed). x .count) h)

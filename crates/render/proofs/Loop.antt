@@ -11,14 +11,14 @@ use Rattle.bank.specs.declared.Bank.{Bank}
 use Rattle.bank.specs.declared.Played.{Played}
 use Rattle.render.specs.Line.{recordLine}
 use Rattle.bank.specs.Bank.{initBank, recordPlayed}
-use Rattle.bank.specs.Lent.{Handed, left, playOf}
+use Rattle.bank.specs.Lent.{Handed, handedBack, playOf}
 use Rattle.bank.proofs.Room.{always-room}
 use Rattle.render.specs.Lists.{recordsFrom, runOf, numbered, linesOf}
 use Rattle.render.specs.Private.{laid, Wrote, saidOf}
 use Rattle.render.proofs.Laying.{joins, take-laid}
 
 -- one record, in a buffer that has room for any
-pub said : (b : Bank) (p : List ℕ) (r : Played) (d d' : List Float) → 4096 ≤ length d → left r d' ≡ playOf b p d → r ≡ saidOf (recordPlayed b p)
+pub said : (b : Bank) (p : List ℕ) (r : Played) (d d' : List Float) → 4096 ≤ length d → handedBack r d' ≡ playOf b p d → r ≡ saidOf (recordPlayed b p)
 said b p r d d' h e =
     let same = e ∙ always-room b p d h in
     rw (ap (λ (x : Handed). x .bank) same, ap (λ (x : Handed). x .outcome) same)

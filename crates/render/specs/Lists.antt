@@ -79,8 +79,8 @@ countOf (Text n) = n
 countOf (Malformed n) = n
 countOf NoRoom = 0
 
-abbrev pub left : Written → List ℕ → Handed
-left r d = record { number = numberOf r; count = countOf r; buffer = d }
+abbrev pub handedBack : Written → List ℕ → Handed
+handedBack r d = record { number = numberOf r; count = countOf r; buffer = d }
 
 -- ---- in the words of a promise
 -- the states that records leave, from those of b

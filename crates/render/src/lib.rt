@@ -2,7 +2,7 @@
 ghost use mathlib.Core.Path.{_≡_};
 ghost use Prim.Native.Nat.{_≤_};
 ghost use lib.ListN.{length};
-ghost use Rattle.render.specs.Lists.{recordsFrom, linesOf, isJobList, textOf, answerIf, written, renderOf, countOf, left};
+ghost use Rattle.render.specs.Lists.{recordsFrom, linesOf, isJobList, textOf, answerIf, written, renderOf, countOf, handedBack};
 ghost use Rattle.bank.specs.Bank.{recordPlayed};
 ghost use Rattle.render.specs.Private.{Wrote, fittedOf, saidOf};
 use bank::Bank;
@@ -35,7 +35,7 @@ pub fn count(written: Written) -> usize
 // The lines of every record, or the one line `8` for a list that is too long or no multiple of 64. The text is composed apart, so that nothing is
 // written where not all of it fits.
 pub fn render(list: &[u8], out: &mut [u8]) -> Written
-    ensures { λ r. ⌜ left r (now (out .exit)) ≡ renderOf (now (list .entry)) (now (out .entry)) ⌝ }
+    ensures { λ r. ⌜ handedBack r (now (out .exit)) ≡ renderOf (now (list .entry)) (now (out .entry)) ⌝ }
 {
     let mut whole = [0u8; ROOM];
     let n = compose(list, &mut whole);
@@ -51,7 +51,7 @@ fn is_job_list(list: &[u8]) -> bool
 
 // The text, where it fits.
 fn hand_over(good: bool, from: &[u8], out: &mut [u8]) -> Written
-    ensures { λ r. ⌜ left r (now (out .exit)) ≡ written (answerIf good) (now (from .entry)) (now (out .entry)) ⌝ }
+    ensures { λ r. ⌜ handedBack r (now (out .exit)) ≡ written (answerIf good) (now (from .entry)) (now (out .entry)) ⌝ }
 {
     if from.len() <= out.len() {
         fitted(good, text::append(out, 0, from))

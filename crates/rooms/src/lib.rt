@@ -34,7 +34,7 @@ pub enum Room {
     StringFrequency,
     PulseWidth,
     Waveshape,
-    Sixteen,
+    ModulationOrGain,
 }
 
 pub fn in_room(room: Room, x: f32) -> bool
@@ -46,7 +46,7 @@ pub fn in_room(room: Room, x: f32) -> bool
         Room::StringFrequency => (x > 0.0) & (x <= 0.53125),
         Room::PulseWidth => (x > 0.0) & (x < 1.0),
         Room::Waveshape => (x >= -1.0) & (x <= 2.0),
-        Room::Sixteen => (x >= -16.0) & (x <= 16.0),
+        Room::ModulationOrGain => (x >= -16.0) & (x <= 16.0),
     }
 }
 

@@ -1,6 +1,6 @@
 // The variable shape's master phase set in its three forms, from the same words.
 ghost use mathlib.Core.Path.{_≡_};
-ghost use Rattle.variable_shape.specs.MasterPhase.{masterPhaseSet, leftSet};
+ghost use Rattle.variable_shape.specs.MasterPhase.{masterPhaseSet, asSetting};
 use crate::fields;
 use libc::STDOUT_FILENO;
 use variable_shape::PhaseSet;
@@ -47,7 +47,7 @@ fn put_left(text: &mut [u8], at: usize, number: u32, words: &[u32; 10], last: u8
 
 // The form on a lent state, with the state by value: here it is lent, and handed back with the answer.
 fn set_lent(state: State, phase: f32) -> PhaseSet
-    ensures { λ r. ⌜ leftSet r ≡ masterPhaseSet state phase ⌝ }
+    ensures { λ r. ⌜ asSetting r ≡ masterPhaseSet state phase ⌝ }
 {
     let mut set = state;
     let answer = variable_shape::set_master_phase_in(&mut set, phase);

@@ -10,7 +10,7 @@ use Rattle.floats.specs.F32.{zero32, half32, one32, four32, minFrequency}
 use Rattle.floats.proofs.Order.{numbers, lt→le, le-trans, le-not-lt, not-le-lt}
 use Rattle.ranges.specs.Ranges.{within, parameterFrequencyIn, allOf}
 use Rattle.block.specs.Calls.{refusal, run}
-use Rattle.block.specs.Checks.{Check, FirstFailing, here, later}
+use Rattle.block.specs.Checks.{Check, FirstFailing, here, later, _unless_}
 use Rattle.block.specs.Oscillator.{callOf}
 use Rattle.floats.proofs.Bools.{and-both}
 use Rattle.ranges.proofs.AllOf.{of-each}

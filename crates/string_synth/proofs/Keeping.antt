@@ -2,18 +2,18 @@
 use mathlib.Core.Path.{_≡_, refl, sym, _∙_}
 use mathlib.Core.Bool.{Bool, true, false, cond}
 use mathlib.Core.List.{List, [], _∷_}
-use Prim.Native.Nat.{ℕ, _*_, _≤_, _<_}
+use Prim.Native.Nat.{ℕ, _*_, _≤_, _<_, _-_}
 use native.Mathlib.Omega.{arith}
 use borrow.Author.Tests.{eqb-true, eqb-false, leb-false, ne-eqb}
 use lib.Dec.{eqb}
 use lib.Ieee.{Float, lt, le}
 use Rattle.floats.specs.F32.{_⊕_, zero32, topStringStep}
 use Rattle.floats.proofs.Ticks.{tick, cycle, tick-pos, topStringStep-at, Sum}
-use Rattle.floats.proofs.Turn.{Step, turn-8, turn-sum, turn-stays, turn-by}
+use Rattle.floats.proofs.PhaseSteps.{Step, wraps-at-8, phase-sum, phase-stays, phase-by}
 use Rattle.floats.proofs.Ranges.{Positive, positive-of, positive-le, at-least-0}
 use Rattle.whole_part.specs.WholePart.{wholePart, isWhole}
-use Rattle.rooms.specs.declared.Room.the-variants.{StringFrequency, Sixteen}
-use Rattle.ranges.specs.Ranges.{sixteenIn}
+use Rattle.rooms.specs.declared.Room.the-variants.{StringFrequency, ModulationOrGain}
+use Rattle.ranges.specs.Ranges.{modulationOrGainIn}
 use Rattle.rooms.specs.Rooms.{inRoom}
 use Rattle.rooms.specs.Steps.{allIn}
 use Rattle.floats.proofs.Bools.{and-both}
@@ -39,16 +39,16 @@ pub record Law (a b : ℕ) (e : Reached) : Type 0 where
   pub below : e .segment < 8
   pub rises : e .rises ≤ 1
 
-wrapped-below : (k : ℕ) (o : Bool) → k ≤ 8 → eqb k 8 ≡ o → cond o (k - 8) k < 8
-wrapped-below k true m e = omega (arith, eqb-true k 8 e)
-wrapped-below k false m e = omega (arith, eqb-false k 8 e)
+wrap-segment-below : (k : ℕ) (o : Bool) → k ≤ 8 → eqb k 8 ≡ o → cond o (k - 8) k < 8
+wrap-segment-below k true m e = omega (arith, eqb-true k 8 e)
+wrap-segment-below k false m e = omega (arith, eqb-false k 8 e)
 
 module _ (s : State) (saws : Saws) (h : Ready s (saws .frequency)) where
   abbrev reached : Float
   reached = s .phase ⊕ saws .frequency
 
   sum : Sum reached (h .valid .phase .n) (h .step .n) (143130624 * tick) (8 * tick)
-  sum = turn-sum turn-8 (h .valid .phase .at) (h .step .at) (omega (arith, h .valid .phase .under, h .step .most))
+  sum = phase-sum wraps-at-8 (h .valid .phase .at) (h .step .at) (omega (arith, h .valid .phase .under, h .step .most))
 
   whole : Whole (sum .n) (wholePart reached)
   whole = whole-law (sum .at) (omega (arith, sum .top, tick-pos))
@@ -58,14 +58,14 @@ module _ (s : State) (saws : Saws) (h : Ready s (saws .frequency)) where
   stay-law l =
       let k : wholePart reached ≡ h .valid .k = eqb-true (wholePart reached) (h .valid .k) (rw (h .valid .segment) at l) in
       let under : wholePart reached < 8 = omega (arith, k, h .valid .below) in
-      record { phase = turn-stays turn-8 sum (leb-false (8 * cycle) (sum .n) (sym (whole .eight) ∙ ne-eqb (wholePart reached) 8 (λ e. omega (arith, under, e)))); below = under; rises = omega arith }
+      record { phase = phase-stays wraps-at-8 sum (leb-false (8 * cycle) (sum .n) (sym (whole .eight) ∙ ne-eqb (wholePart reached) 8 (λ e. omega (arith, under, e)))); below = under; rises = omega arith }
 
   cross-law : Law (h .valid .phase .n) (h .step .n) (crossed s saws reached (wholePart reached))
   cross-law =
       let p = crossed-placed s saws reached (wholePart reached) in
       record {
-        phase = rw (p .phase, p .cycles) (turn-by turn-8 sum (eqb (wholePart reached) 8) (whole .eight));
-        below = rw (p .segment) (wrapped-below (wholePart reached) (eqb (wholePart reached) 8) (whole .most) refl);
+        phase = rw (p .phase, p .cycles) (phase-by wraps-at-8 sum (eqb (wholePart reached) 8) (whole .eight));
+        below = rw (p .segment) (wrap-segment-below (wholePart reached) (eqb (wholePart reached) 8) (whole .most) refl);
         rises = omega (arith, p .rises);
       }
 
@@ -85,12 +85,12 @@ pub record Stepped (s : State) (saws : Saws) : Type 0 where
 pub stepped-of : (s : State) (steps : List Float) → Valid s → Inside rooms steps → Stepped s (sawsOf steps)
 unfolding allIn gainsIn
 stepped-of s (f ∷ a ∷ b ∷ c ∷ d ∷ []) v i =
-    let p = and-both (inRoom StringFrequency f) (allIn (Sixteen ∷ Sixteen ∷ Sixteen ∷ Sixteen ∷ []) (a ∷ b ∷ c ∷ d ∷ [])) (i .rooms) in
+    let p = and-both (inRoom StringFrequency f) (allIn (ModulationOrGain ∷ ModulationOrGain ∷ ModulationOrGain ∷ ModulationOrGain ∷ []) (a ∷ b ∷ c ∷ d ∷ [])) (i .rooms) in
     let q = and-both (lt zero32 f) (le f topStringStep) (p .0) in
-    let a' = and-both (sixteenIn a) (allIn (Sixteen ∷ Sixteen ∷ Sixteen ∷ []) (b ∷ c ∷ d ∷ [])) (p .1) in
-    let b' = and-both (sixteenIn b) (allIn (Sixteen ∷ Sixteen ∷ []) (c ∷ d ∷ [])) (a' .1) in
-    let c' = and-both (sixteenIn c) (allIn (Sixteen ∷ []) (d ∷ [])) (b' .1) in
-    let d' = and-both (sixteenIn d) true (c' .1) in
+    let a' = and-both (modulationOrGainIn a) (allIn (ModulationOrGain ∷ ModulationOrGain ∷ ModulationOrGain ∷ []) (b ∷ c ∷ d ∷ [])) (p .1) in
+    let b' = and-both (modulationOrGainIn b) (allIn (ModulationOrGain ∷ ModulationOrGain ∷ []) (c ∷ d ∷ [])) (a' .1) in
+    let c' = and-both (modulationOrGainIn c) (allIn (ModulationOrGain ∷ []) (d ∷ [])) (b' .1) in
+    let d' = and-both (modulationOrGainIn d) true (c' .1) in
     record { ready = record { valid = v; step = positive-of (i .fit .0) (q .0) (q .1) topStringStep-at }; gains = of-each _ (a' .0, (b' .0, (c' .0, (d' .0, tt)))) }
 stepped-of s [] v i = absurd (omega (arith, i .long))
 stepped-of s (f ∷ []) v i = absurd (omega (arith, i .long))

@@ -14,14 +14,14 @@ use Rattle.string_synth.specs.Targets.{halved, lowered}
 abbrev pub octave : Float → ℕ → Octave
 octave f shift = record { frequency = f; shift = shift }
 
--- so many turns are left, and what they make is the whole
+-- so many turns may follow, and what they make is the whole
 pub record Lowering (f₀ f : Float) (shift : ℕ) : Type 0 where
-  pub left : ℕ
-  pub turns : shift + 2 * left ≡ 8
-  pub same : halved left (octave f shift) ≡ lowered f₀
+  pub more : ℕ
+  pub turns : shift + 2 * more ≡ 8
+  pub same : halved more (octave f shift) ≡ lowered f₀
 
 pub lowering-start : (f : Float) → Lowering f f 0
-lowering-start f = record { left = 4; turns = refl; same = refl }
+lowering-start f = record { more = 4; turns = refl; same = refl }
 
 pub stops : (k : ℕ) (o : Octave) → lt half32 (o .frequency) ≡ false → halved k o ≡ o
 unfolding halved
@@ -37,8 +37,8 @@ module _ (f₀ f : Float) (shift : ℕ) where
   lowering-end p h = go (lt half32 f) refl h
     where
       go : (b : Bool) → lt half32 f ≡ b → (b && ltb shift 8) ≡ false → octave f shift ≡ lowered f₀
-      go false e h = sym (stops (p .left) (octave f shift) e) ∙ p .same
-      go true e h = last (p .left) (p .turns) (p .same)
+      go false e h = sym (stops (p .more) (octave f shift) e) ∙ p .same
+      go true e h = last (p .more) (p .turns) (p .same)
         where
           last : (k : ℕ) → shift + 2 * k ≡ 8 → halved k (octave f shift) ≡ lowered f₀ → octave f shift ≡ lowered f₀
           last zero t s = s
@@ -46,8 +46,8 @@ module _ (f₀ f : Float) (shift : ℕ) where
 
   pub lowering-more : Lowering f₀ f shift → (lt half32 f && ltb shift 8) ≡ true → Lowering f₀ (f ⊗ half32) (shift + 2)
   unfolding halved
-  lowering-more p h = go (and-both (lt half32 f) (ltb shift 8) h .0) (lowering-below f shift h) (p .left) (p .turns) (p .same)
+  lowering-more p h = go (and-both (lt half32 f) (ltb shift 8) h .0) (lowering-below f shift h) (p .more) (p .turns) (p .same)
     where
       go : lt half32 f ≡ true → shift < 8 → (k : ℕ) → shift + 2 * k ≡ 8 → halved k (octave f shift) ≡ lowered f₀ → Lowering f₀ (f ⊗ half32) (shift + 2)
       go a l zero t s = absurd (omega arith)
-      go a l (suc k) t s = record { left = k; turns = omega arith; same = (rw a at s) }
+      go a l (suc k) t s = record { more = k; turns = omega arith; same = (rw a at s) }

@@ -1,7 +1,7 @@
 -- Segments: a whole part and the segment of a state, what crossing into a segment leaves as it is, and where a cycle ends. Assumes nothing.
 use mathlib.Core.Path.{_≡_, refl, ap, _∙_}
 use mathlib.Core.Bool.{Bool, true, false, cond}
-use Prim.Native.Nat.{ℕ, _*_, _/_, _^_, _≤_, _<_}
+use Prim.Native.Nat.{ℕ, _*_, _/_, _^_, _≤_, _<_, _-_}
 use native.Mathlib.Nat.{lt-of-lt-of-le, div-lt-iff-lt-mul}
 use native.Mathlib.Omega.{arith}
 use borrow.Author.Tests.{eqb-true, leb-true, le-leb, eq-eqb}
@@ -18,7 +18,7 @@ use Rattle.whole_part.proofs.Exact.{whole-part-at}
 use Rattle.string_synth.specs.declared.State.{State}
 use Rattle.string_synth.specs.declared.sample.Saws.{Saws}
 use Rattle.string_synth.specs.declared.sample.Reached.{Reached}
-use Rattle.string_synth.specs.Sample.{wrappedSegment, blepOf, softened, stayed, entered, crossed, reachedOf}
+use Rattle.string_synth.specs.Sample.{wrapSegment, blepOf, softened, stayed, entered, crossed, reachedOf}
 
 -- a step's end, from its parts
 pub reach-is : (s : State) (saws : Saws) (whole : ℕ) (within : Bool) (r : Reached) → whole ≡ wholePart (s .phase ⊕ saws .frequency) → within ≡ isWhole whole (s .segment)
@@ -45,8 +45,8 @@ pub crossed-placed : (s : State) (saws : Saws) (phase : Float) (whole : ℕ) →
 unfolding crossed
 crossed-placed s saws phase whole = softened-placed (entered s phase whole) _ _
 
-wrapped-small : (whole : ℕ) → whole ≤ 131072 → wrappedSegment whole ≤ 131072
-wrapped-small whole h = go (eqb whole 8)
+wrap-segment-small : (whole : ℕ) → whole ≤ 131072 → wrapSegment whole ≤ 131072
+wrap-segment-small whole h = go (eqb whole 8)
   where
     go : (b : Bool) → cond b (whole - 8) whole ≤ 131072
     go true = omega arith
@@ -68,7 +68,7 @@ reached-small s saws = go (isWhole whole (s .segment))
 
     go : (b : Bool) → cond b (stayed s phase whole) (crossed s saws phase whole) .segment ≤ 131072
     go true = small
-    go false = rw (crossed-placed s saws phase whole .segment) (wrapped-small whole small)
+    go false = rw (crossed-placed s saws phase whole .segment) (wrap-segment-small whole small)
 
 -- what the whole part says of a phase of n units below 9: it is 8 exactly where the phase has come to 8
 pub record Whole (n whole : ℕ) : Type 0 where

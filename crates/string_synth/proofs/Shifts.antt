@@ -83,21 +83,21 @@ module _ (f : Float) (n : ℕ) (p : At f n) (top : n ≤ cycle) where
   at-1 = halve (at-even p) (small n n top (omega arith)) (subst (At (x8 ⊗ half32 ⊗ half32)) (omega arith) at-2)
 
   -- the loop ends at r, by its own test, however many turns it may make
-  pub record Leaves : Type 0 where
+  pub record Ends : Type 0 where
     pub r : Octave
     pub same : (j : ℕ) → halved (suc (suc (suc j))) (octave x8 0) ≡ r
     pub most : r .shift ≤ 6
     pub low : le (r .frequency) half32 ≡ true
 
-  pub leaves : n ≤ 8388608 * tick → Leaves
-  leaves l = none (lt half32 x8) refl
+  pub loop-ends : n ≤ 8388608 * tick → Ends
+  loop-ends l = none (lt half32 x8) refl
     where
       three : (j : ℕ) → lt half32 x8 ≡ true → lt half32 (x8 ⊗ half32) ≡ true → lt half32 (x8 ⊗ half32 ⊗ half32) ≡ true → halved (suc (suc (suc j))) (octave x8 0) ≡ octave (x8 ⊗ half32 ⊗ half32 ⊗ half32) 6
       three j h i k =
           turns (suc (suc j)) (octave x8 0) h ∙ turns (suc j) (octave (x8 ⊗ half32) 2) i ∙ turns j (octave (x8 ⊗ half32 ⊗ half32) 4) k
           ∙ stops j (octave (x8 ⊗ half32 ⊗ half32 ⊗ half32) 6) (lt-at half-at at-1 ∙ le-ltb (8388608 * tick) n l)
 
-      two : lt half32 x8 ≡ true → lt half32 (x8 ⊗ half32) ≡ true → (b : Bool) → lt half32 (x8 ⊗ half32 ⊗ half32) ≡ b → Leaves
+      two : lt half32 x8 ≡ true → lt half32 (x8 ⊗ half32) ≡ true → (b : Bool) → lt half32 (x8 ⊗ half32 ⊗ half32) ≡ b → Ends
       two h i true k = record { r = octave (x8 ⊗ half32 ⊗ half32 ⊗ half32) 6; same = λ j. three j h i k; most = omega arith; low = passes-le at-1 half-at l }
       two h i false k = record {
         r = octave (x8 ⊗ half32 ⊗ half32) 4;
@@ -106,11 +106,11 @@ module _ (f : Float) (n : ℕ) (p : At f n) (top : n ≤ cycle) where
         low = low-enough at-2 k;
       }
 
-      one : lt half32 x8 ≡ true → (b : Bool) → lt half32 (x8 ⊗ half32) ≡ b → Leaves
+      one : lt half32 x8 ≡ true → (b : Bool) → lt half32 (x8 ⊗ half32) ≡ b → Ends
       one h true i = two h i (lt half32 (x8 ⊗ half32 ⊗ half32)) refl
       one h false i = record { r = octave (x8 ⊗ half32) 2; same = λ j. turns (suc (suc j)) (octave x8 0) h ∙ stops (suc (suc j)) (octave (x8 ⊗ half32) 2) i; most = omega arith; low = low-enough at-4 i }
 
-      none : (b : Bool) → lt half32 x8 ≡ b → Leaves
+      none : (b : Bool) → lt half32 x8 ≡ b → Ends
       none true h = one h (lt half32 (x8 ⊗ half32)) refl
       none false h = record { r = octave x8 0; same = λ j. stops (suc (suc (suc j))) (octave x8 0) h; most = omega arith; low = low-enough at-8 h }
 
@@ -131,5 +131,5 @@ gives-up f t h =
     go : UpTo f cycle → (b : Bool) → lt half32 f ≡ b → leb 8 (shiftOf f) ≡ b
     go u true k = ap (leb 8) (eight f (u .n) (u .at) (u .most) (passed-lt half-at (u .at) k))
     go u false k =
-        let l = leaves f (u .n) (u .at) (u .most) (failed-lt half-at (u .at) k) in
+        let l = loop-ends f (u .n) (u .at) (u .most) (failed-lt half-at (u .at) k) in
         ap (λ (o : Octave). leb 8 (o .shift)) (l .same 1) ∙ lt-leb 8 (l .r .shift) (omega (arith, l .most))

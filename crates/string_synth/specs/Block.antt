@@ -1,4 +1,5 @@
 -- The string synth as an oscillator of `block`: string_synth_oscillator.rs, lines 53 to 151, with 01's checks before it. Assumes nothing.
+use Rattle.block.specs.Checks.{_unless_}
 use mathlib.Core.Bool.{Bool, true, not, _&&_}
 use mathlib.Core.List.{List, [], _∷_}
 use Prim.Native.Nat.{ℕ}
@@ -11,8 +12,8 @@ use Rattle.floats.specs.F32.{zero32, half32, four32, eight32, topStringStep}
 use Rattle.parameter_interpolator.specs.declared.ParameterInterpolator.{ParameterInterpolator}
 use Rattle.parameter_interpolator.specs.Interpolator.{newInterpolator}
 use Rattle.rooms.specs.declared.Room.{Room}
-use Rattle.rooms.specs.declared.Room.the-variants.{StringFrequency, Sixteen}
-use Rattle.ranges.specs.Ranges.{within, parameterFrequencyIn, unitIn, sixteenIn, allOf}
+use Rattle.rooms.specs.declared.Room.the-variants.{StringFrequency, ModulationOrGain}
+use Rattle.ranges.specs.Ranges.{within, parameterFrequencyIn, unitIn, modulationOrGainIn, allOf}
 use Rattle.block.specs.Calls.{Call, gave}
 use Rattle.block.specs.Oscillator.{Oscillator, callOf}
 use Rattle.string_synth.specs.declared.State.{State}
@@ -31,7 +32,7 @@ segmentIn z = leZ (pos 0) z && leZ z (pos 7)
 
 -- the four gains -16 to 16
 unfoldable pub gainsIn : Float → Float → Float → Float → Bool
-gainsIn of8 of4 of2 of1 = allOf (sixteenIn of8 ∷ sixteenIn of4 ∷ sixteenIn of2 ∷ sixteenIn of1 ∷ [])
+gainsIn of8 of4 of2 of1 = allOf (modulationOrGainIn of8 ∷ modulationOrGainIn of4 ∷ modulationOrGainIn of2 ∷ modulationOrGainIn of1 ∷ [])
 
 -- the frequency 0 to 17/32, and `next_sample` any bits
 unfoldable pub stateIn : State → Bool
@@ -71,7 +72,7 @@ interpolators s to n =
 
 -- 01, "Rooms for each interpolated step": the frequency above 0 and at most 17/32, the four gains -16 to 16
 abbrev pub rooms : List Room
-rooms = StringFrequency ∷ Sixteen ∷ Sixteen ∷ Sixteen ∷ Sixteen ∷ []
+rooms = StringFrequency ∷ ModulationOrGain ∷ ModulationOrGain ∷ ModulationOrGain ∷ ModulationOrGain ∷ []
 
 -- Where the source returns without a word, line 71, the answer is 5. Its only phase is the one whose wraps are cycles, and the first step moves it.
 abbrev pub stringSynth : Oscillator State Arguments
@@ -96,5 +97,5 @@ abbrev pub renderOf : State → Float → List Float → Float → List Float �
 renderOf s frequency registration gain xs = callOf stringSynth s (record { frequency = frequency; registration = registration; gain = gain; buffer = xs })
 
 -- what a call returned and left in the buffer, in 01's numbers
-abbrev pub left : Rendered → List Float → Call State
-left r xs = gave (r .answer) (r .state) (r .counts) xs
+abbrev pub asCall : Rendered → List Float → Call State
+asCall r xs = gave (r .answer) (r .state) (r .counts) xs

@@ -1,7 +1,7 @@
 -- One sample of the string synth: string_synth_oscillator.rs, lines 107 to 150, in its order. Assumes nothing.
 use mathlib.Core.Bool.{Bool, cond}
 use mathlib.Core.List.{List}
-use Prim.Native.Nat.{ℕ}
+use Prim.Native.Nat.{ℕ, _-_}
 use lib.Bits.{bitAnd}
 use lib.Dec.{eqb}
 use lib.IntN.{pos}
@@ -30,12 +30,12 @@ discontinuityOf wraps segment saws =
     of2 ⊖ saws .«saw_1_gain»
 
 -- a cycle is 8 units of phase, lines 120 and 121
-abbrev pub wrappedPhase : Float → Bool → Float
-wrappedPhase phase wraps = cond wraps (phase ⊖ eight32) phase
+abbrev pub wrapPhase : Float → Bool → Float
+wrapPhase phase wraps = cond wraps (phase ⊖ eight32) phase
 
 -- and eight segments, lines 120 and 122
-abbrev pub wrappedSegment : ℕ → ℕ
-wrappedSegment whole = cond (eqb whole 8) (whole - 8) whole
+abbrev pub wrapSegment : ℕ → ℕ
+wrapSegment whole = cond (eqb whole 8) (whole - 8) whole
 
 -- lines 133 to 136
 unfoldable pub blepOf : Reached → Float → Float → Reached
@@ -70,8 +70,8 @@ stayed s phase whole = record {
 -- each wrap.
 abbrev pub entered : State → Float → ℕ → Reached
 entered s phase whole = record {
-  phase = wrappedPhase phase (eqb whole 8);
-  segment = wrappedSegment whole;
+  phase = wrapPhase phase (eqb whole 8);
+  segment = wrapSegment whole;
   «this_sample» = s .«next_sample»;
   «next_sample» = zero32;
   cycles = oneIf (eqb whole 8);
@@ -80,7 +80,7 @@ entered s phase whole = record {
 
 -- and there the saws fall, lines 119 to 138
 unfoldable pub crossed : State → Saws → Float → ℕ → Reached
-crossed s saws phase whole = softened (entered s phase whole) (discontinuityOf (eqb whole 8) (wrappedSegment whole) saws) (saws .frequency)
+crossed s saws phase whole = softened (entered s phase whole) (discontinuityOf (eqb whole 8) (wrapSegment whole) saws) (saws .frequency)
 
 -- lines 107 to 139
 unfoldable pub reachedOf : State → Saws → Reached

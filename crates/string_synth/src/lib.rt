@@ -6,7 +6,7 @@ ghost use Rattle.block.specs.Calls.{run};
 ghost use Rattle.block.specs.Fit.{Fit, Playable, playedOf};
 ghost use Rattle.string_synth.specs.State.{newState, initState};
 ghost use Rattle.string_synth.specs.Sample.{sampleAt};
-ghost use Rattle.string_synth.specs.Block.{stringPhaseIn, segmentIn, gainsIn, stateIn, registrationIn, parametersIn, interpolators as interpolatorsTo, rooms, renderOf, left};
+ghost use Rattle.string_synth.specs.Block.{stringPhaseIn, segmentIn, gainsIn, stateIn, registrationIn, parametersIn, interpolators as interpolatorsTo, rooms, renderOf, asCall};
 ghost use Rattle.string_synth.specs.Private.{Valid, refused};
 use block::Answer;
 use block::Counts;
@@ -78,7 +78,7 @@ pub fn render(
     gain: f32,
     out: &mut [f32],
 ) -> Rendered
-    ensures { λ r. ⌜ left r (now (out .exit)) ≡ renderOf state frequency (now (registration .entry)) gain (now (out .entry)) ⌝ }
+    ensures { λ r. ⌜ asCall r (now (out .exit)) ≡ renderOf state frequency (now (registration .entry)) gain (now (out .entry)) ⌝ }
 {
     if out.len() > 4096 {
         return refuse(Answer::LongBlock, state);
@@ -115,10 +115,10 @@ fn place_in(s: State) -> bool
 fn gains_in(s: State) -> bool
     ensures { λ r. ⌜ r ≡ gainsIn (s .«saw_8_gain») (s .«saw_4_gain») (s .«saw_2_gain») (s .«saw_1_gain») ⌝ }
 {
-    ranges::sixteen_in(s.saw_8_gain)
-        & ranges::sixteen_in(s.saw_4_gain)
-        & ranges::sixteen_in(s.saw_2_gain)
-        & ranges::sixteen_in(s.saw_1_gain)
+    ranges::modulation_or_gain_in(s.saw_8_gain)
+        & ranges::modulation_or_gain_in(s.saw_4_gain)
+        & ranges::modulation_or_gain_in(s.saw_2_gain)
+        & ranges::modulation_or_gain_in(s.saw_1_gain)
 }
 
 fn parameters_in(frequency: f32, registration: &[f32], gain: f32) -> bool
@@ -167,14 +167,14 @@ fn interpolators(s: State, to: Saws, n: u32) -> [ParameterInterpolator; 5]
 // Drift where a step leaves its room, else the samples.
 fn drift_or_play(state: State, p: [ParameterInterpolator; 5], out: &mut [f32]) -> Rendered
     requires { ⌜ Fit Valid state (now out) ⌝ }
-    ensures { λ r. ⌜ left r (now (out .exit)) ≡ run sampleAt rooms (used rooms p) state (now (out .entry)) ⌝ }
+    ensures { λ r. ⌜ asCall r (now (out .exit)) ≡ run sampleAt rooms (used rooms p) state (now (out .entry)) ⌝ }
 {
     let kept = [
         Room::StringFrequency,
-        Room::Sixteen,
-        Room::Sixteen,
-        Room::Sixteen,
-        Room::Sixteen,
+        Room::ModulationOrGain,
+        Room::ModulationOrGain,
+        Room::ModulationOrGain,
+        Room::ModulationOrGain,
     ];
     match rooms::first_outside(p, kept, out.len() as u32) {
         Found::Outside(i) => refuse(Answer::Drift(i), state),
@@ -185,7 +185,7 @@ fn drift_or_play(state: State, p: [ParameterInterpolator; 5], out: &mut [f32]) -
 // Every sample of the buffer.
 fn play(state: State, p: [ParameterInterpolator; 5], out: &mut [f32]) -> Rendered
     requires { ⌜ Playable Valid rooms state (used rooms p) (now out) ⌝ }
-    ensures { λ r. ⌜ left r (now (out .exit)) ≡ playedOf sampleAt state (used rooms p) (now (out .entry)) ⌝ }
+    ensures { λ r. ⌜ asCall r (now (out .exit)) ≡ playedOf sampleAt state (used rooms p) (now (out .entry)) ⌝ }
 {
     let mut s = state;
     let mut moving = p;

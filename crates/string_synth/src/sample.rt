@@ -2,7 +2,7 @@
 ghost use mathlib.Core.Path.{_≡_};
 ghost use Prim.Native.Nat.{_≤_};
 ghost use Rattle.whole_part.specs.WholePart.{isWhole};
-ghost use Rattle.string_synth.specs.Sample.{lessIf, discontinuityOf, wrappedPhase, wrappedSegment, blepOf, softened, stayed, crossed, reachedOf, nextSample, finish as finished, sampleOf};
+ghost use Rattle.string_synth.specs.Sample.{lessIf, discontinuityOf, wrapPhase, wrapSegment, blepOf, softened, stayed, crossed, reachedOf, nextSample, finish as finished, sampleOf};
 use crate::State;
 use block::Counts;
 use std::num::nearest_u32_to_f32;
@@ -64,14 +64,14 @@ fn discontinuity(wraps: bool, segment: u32, saws: Saws) -> f32
 
 // Line 121: a cycle of the 8' saw is eight segments, and a segment one unit of phase.
 fn wrap_phase(phase: f32, wraps: bool) -> f32
-    ensures { λ r. ⌜ r ≡ wrappedPhase phase wraps ⌝ }
+    ensures { λ r. ⌜ r ≡ wrapPhase phase wraps ⌝ }
 {
     if wraps { phase - 8.0 } else { phase }
 }
 
 // Line 122. Where the phase is below 8 and the step 17/32 at most, no whole part passes 8.
 fn wrap_segment(whole: u32) -> u32
-    ensures { λ r. ⌜ r ≡ wrappedSegment whole ⌝ }
+    ensures { λ r. ⌜ r ≡ wrapSegment whole ⌝ }
 {
     if whole == 8 { whole - 8 } else { whole }
 }

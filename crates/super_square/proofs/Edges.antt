@@ -4,7 +4,7 @@ use native.Mathlib.Omega.{arith}
 use lib.Ieee.{Float}
 use Rattle.floats.specs.F32.{half32}
 use Rattle.floats.proofs.Ticks.{tick-pos, half-at}
-use Rattle.floats.proofs.Turn.{turn-1, turn-sum}
+use Rattle.floats.proofs.PhaseSteps.{wraps-at-1, phase-sum}
 use Rattle.edges.specs.declared.Edge.{Edge}
 use Rattle.edges.specs.CrossingLoop.{Rises, Falls, Crosses, Crossable}
 use Rattle.super_square.specs.declared.State.{State}
@@ -24,7 +24,7 @@ crosses f = record { width = half32; rise = riseOf f; fall = fallOf f; rises = r
 
 pub edge-crossable : {s : State} {masterFrequency slaveFrequency : Float} → Ready s masterFrequency slaveFrequency → Crossable half32 (edgeOf s slaveFrequency)
 edge-crossable h =
-    let z = turn-sum turn-1 (h .valid .slave .at) (h .slave .at) (omega (arith, h .valid .slave .under, h .slave .most)) in
+    let z = phase-sum wraps-at-1 (h .valid .slave .at) (h .slave .at) (omega (arith, h .valid .slave .under, h .slave .most)) in
     record {
       narrow = record { n = _; at = half-at; under = omega (arith, tick-pos) };
       phase = record { n = z .n; at = z .at; most = z .top };

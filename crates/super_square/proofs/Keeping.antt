@@ -8,7 +8,7 @@ use lib.ListN.{getD}
 use lib.Ieee.{Float, le}
 use Rattle.floats.specs.F32.{_⊕_, _⊖_, _⊘_, zero32, one32}
 use Rattle.floats.proofs.Ticks.{tick, cycle, one-at, tick-pos, Sum}
-use Rattle.floats.proofs.Turn.{Step, turn-1, turn-sum, turn-wraps, turn-stays}
+use Rattle.floats.proofs.PhaseSteps.{Step, wraps-at-1, phase-sum, phase-wraps, phase-stays}
 use Rattle.floats.proofs.Ranges.{Under, passed-le, failed-le, mul-le, reset-time}
 use Rattle.block.specs.Counting.{oneIf}
 use Rattle.rooms.specs.Steps.{allIn}
@@ -38,14 +38,14 @@ pub record Law (s : State) (masterFrequency slaveFrequency : Float) (a b : ℕ) 
 
 module _ (s : State) (masterFrequency slaveFrequency : Float) (h : Ready s masterFrequency slaveFrequency) where
   sum : Sum (s .«master_phase» ⊕ masterFrequency) (h .valid .master .n) (h .master .n) (21233664 * tick) tick
-  sum = turn-sum turn-1 (h .valid .master .at) (h .master .at) (omega (arith, h .valid .master .under, h .master .most))
+  sum = phase-sum wraps-at-1 (h .valid .master .at) (h .master .at) (omega (arith, h .valid .master .under, h .master .most))
 
   plain-law : le one32 (s .«master_phase» ⊕ masterFrequency) ≡ false → Law s masterFrequency slaveFrequency (h .valid .master .n) (h .master .n) (plainSample s masterFrequency slaveFrequency (s .«master_phase» ⊕ masterFrequency))
   unfolding plainSample finish
   plain-law l =
       let c = crossed-of (crosses slaveFrequency) (edge-crossable h) in
       record {
-        master = turn-stays turn-1 sum (failed-le one-at (sum .at) l);
+        master = phase-stays wraps-at-1 sum (failed-le one-at (sum .at) l);
         slave = c .phase;
         master-frequency = refl;
         slave-frequency = refl;
@@ -66,7 +66,7 @@ module _ (s : State) (masterFrequency slaveFrequency : Float) (h : Ready s maste
       let time = reset-time (h .valid .master .at) (h .master .at) (h .master .some) (h .valid .master .under) (h .master .most) l in
       let slave = mul-le (time .at) (h .slave .at) (time .most) in
       record {
-        master = turn-wraps turn-1 sum (passed-le one-at (sum .at) l);
+        master = phase-wraps wraps-at-1 sum (passed-le one-at (sum .at) l);
         slave = record { n = slave .n; at = slave .at; under = omega (arith, slave .most, h .slave .most, tick-pos) };
         master-frequency = refl;
         slave-frequency = refl;

@@ -1,4 +1,5 @@
 -- The super square as an oscillator of `block`: super_square_oscillator.rs, lines 38 to 132, with 01's checks before it. Assumes nothing.
+use Rattle.block.specs.Checks.{_unless_}
 use mathlib.Core.Bool.{Bool, cond}
 use mathlib.Core.List.{List, [], _∷_}
 use Prim.Native.Nat.{ℕ}
@@ -73,5 +74,5 @@ abbrev pub renderOf : State → Float → Float → List Float → Call State
 renderOf s frequency shape xs = callOf superSquare s (record { frequency = frequency; shape = shape; buffer = xs })
 
 -- what a call returned and left in the buffer, in 01's numbers
-abbrev pub left : Rendered → List Float → Call State
-left r xs = gave (r .answer) (r .state) (r .counts) xs
+abbrev pub asCall : Rendered → List Float → Call State
+asCall r xs = gave (r .answer) (r .state) (r .counts) xs

@@ -10,7 +10,7 @@ use lib.ListN.{getD}
 use lib.Ieee.{Float, le}
 use Rattle.floats.specs.F32.{_⊕_, zero32, one32}
 use Rattle.floats.proofs.Ticks.{tick, cycle, one-at, tick-pos, Sum}
-use Rattle.floats.proofs.Turn.{Step, turn-1, turn-saw, turn-sum, turn-wraps, turn-stays}
+use Rattle.floats.proofs.PhaseSteps.{Step, wraps-at-1, saw-wraps-at-1, phase-sum, phase-wraps, phase-stays}
 use Rattle.floats.proofs.Ranges.{Positive, passed-le, failed-le}
 use Rattle.ranges.specs.Ranges.{unitIn, waveshapeIn}
 use Rattle.block.specs.Limits.{Balanced}
@@ -67,10 +67,10 @@ reach-most false = omega (arith, tick-pos)
 module _ (s : State) (frequency pw waveshape : Float) (h : Ready s frequency pw waveshape) where
   -- while low the sum is at most 81/64, and else at most 98/64: both are below 2, where a wrap is exact
   sum-low : s .high ≡ false → Sum (s .phase ⊕ frequency) (h .valid .phase .n) (h .step .n) (21233664 * tick) tick
-  sum-low l = turn-sum turn-1 (h .valid .phase .at) (h .step .at) (omega (arith, rw l at (h .valid .phase .under), h .step .most))
+  sum-low l = phase-sum wraps-at-1 (h .valid .phase .at) (h .step .at) (omega (arith, rw l at (h .valid .phase .under), h .step .most))
 
   sum : Sum (s .phase ⊕ frequency) (h .valid .phase .n) (h .step .n) (25690112 * tick) tick
-  sum = turn-sum turn-saw (h .valid .phase .at) (h .step .at) (omega (arith, h .valid .phase .under, reach-most (s .high), h .step .most))
+  sum = phase-sum saw-wraps-at-1 (h .valid .phase .at) (h .step .at) (omega (arith, h .valid .phase .under, reach-most (s .high), h .step .most))
 
   abbrev w : Wave
   w = waveOf pw waveshape
@@ -92,7 +92,7 @@ module _ (s : State) (frequency pw waveshape : Float) (h : Ready s frequency pw 
   rise-law : s .high ≡ false → Meets (finish w frequency 0 rose)
   unfolding finish riseOf
   rise-law l = record {
-    phase = turn-stays turn-1 (sum-low l) (omega (arith, sum-low l .top));
+    phase = phase-stays wraps-at-1 (sum-low l) (omega (arith, sum-low l .top));
     stored = stored 0 rose;
     rises = omega arith;
     falls = omega arith;
@@ -104,7 +104,7 @@ module _ (s : State) (frequency pw waveshape : Float) (h : Ready s frequency pw 
   wrap-law : le one32 (s .phase ⊕ frequency) ≡ true → Meets (finish w frequency 1 (wrapOf w frequency e))
   unfolding finish wrapOf
   wrap-law l = record {
-    phase = turn-wraps turn-saw sum (passed-le one-at (sum .at) l);
+    phase = phase-wraps saw-wraps-at-1 sum (passed-le one-at (sum .at) l);
     stored = stored 1 (wrapOf w frequency e);
     rises = omega arith;
     falls = rw (one-fall (s .high)) (one-most (s .high));
@@ -116,7 +116,7 @@ module _ (s : State) (frequency pw waveshape : Float) (h : Ready s frequency pw 
   stay-law : le one32 (s .phase ⊕ frequency) ≡ false → Meets (finish w frequency 0 e)
   unfolding finish
   stay-law l = record {
-    phase = turn-stays turn-saw sum (omega (arith, failed-le one-at (sum .at) l, reach-least (s .high)));
+    phase = phase-stays saw-wraps-at-1 sum (omega (arith, failed-le one-at (sum .at) l, reach-least (s .high)));
     stored = stored 0 e;
     rises = omega arith;
     falls = omega arith;

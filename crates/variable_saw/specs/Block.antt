@@ -1,4 +1,5 @@
 -- The variable saw as an oscillator of `block`: variable_saw_oscillator.rs, lines 44 to 111, with 01's checks before it. Assumes nothing.
+use Rattle.block.specs.Checks.{_unless_}
 use mathlib.Core.Bool.{Bool, cond}
 use mathlib.Core.List.{List, [], _∷_}
 use Prim.Native.Nat.{ℕ}
@@ -73,5 +74,5 @@ abbrev pub renderOf : State → Float → Float → Float → List Float → Cal
 renderOf s frequency pw waveshape xs = callOf variableSaw s (record { frequency = frequency; pw = pw; waveshape = waveshape; buffer = xs })
 
 -- what a call returned and left in the buffer, in 01's numbers
-abbrev pub left : Rendered → List Float → Call State
-left r xs = gave (r .answer) (r .state) (r .counts) xs
+abbrev pub asCall : Rendered → List Float → Call State
+asCall r xs = gave (r .answer) (r .state) (r .counts) xs

@@ -7,7 +7,7 @@ ghost use Rattle.block.specs.Calls.{run};
 ghost use Rattle.block.specs.Fit.{Fit, Playable, playedOf};
 ghost use Rattle.variable_saw.specs.State.{newState, initState};
 ghost use Rattle.variable_saw.specs.Sample.{sampleAt};
-ghost use Rattle.variable_saw.specs.Block.{sawPhaseIn, stateIn, parametersIn, interpolators as interpolatorsTo, rooms, renderOf, left};
+ghost use Rattle.variable_saw.specs.Block.{sawPhaseIn, stateIn, parametersIn, interpolators as interpolatorsTo, rooms, renderOf, asCall};
 ghost use Rattle.variable_saw.specs.Private.{Valid, refused};
 use block::Answer;
 use block::Counts;
@@ -67,7 +67,7 @@ pub struct Rendered {
 
 // Renders a block into `out`, from the frequency, width and waveshape that the last block ended with to these.
 pub fn render(state: State, frequency: f32, pw: f32, waveshape: f32, out: &mut [f32]) -> Rendered
-    ensures { λ r. ⌜ left r (now (out .exit)) ≡ renderOf state frequency pw waveshape (now (out .entry)) ⌝ }
+    ensures { λ r. ⌜ asCall r (now (out .exit)) ≡ renderOf state frequency pw waveshape (now (out .entry)) ⌝ }
 {
     if out.len() > 4096 {
         return refuse(Answer::LongBlock, state);
@@ -147,7 +147,7 @@ fn interpolators(
 // Drift where a step leaves its room, else the samples.
 fn drift_or_play(state: State, p: [ParameterInterpolator; 5], out: &mut [f32]) -> Rendered
     requires { ⌜ Fit Valid state (now out) ⌝ }
-    ensures { λ r. ⌜ left r (now (out .exit)) ≡ run sampleAt rooms (used rooms p) state (now (out .entry)) ⌝ }
+    ensures { λ r. ⌜ asCall r (now (out .exit)) ≡ run sampleAt rooms (used rooms p) state (now (out .entry)) ⌝ }
 {
     let kept = [
         Room::Frequency,
@@ -165,7 +165,7 @@ fn drift_or_play(state: State, p: [ParameterInterpolator; 5], out: &mut [f32]) -
 // Every sample of the buffer.
 fn play(state: State, p: [ParameterInterpolator; 5], out: &mut [f32]) -> Rendered
     requires { ⌜ Playable Valid rooms state (used rooms p) (now out) ⌝ }
-    ensures { λ r. ⌜ left r (now (out .exit)) ≡ playedOf sampleAt state (used rooms p) (now (out .entry)) ⌝ }
+    ensures { λ r. ⌜ asCall r (now (out .exit)) ≡ playedOf sampleAt state (used rooms p) (now (out .entry)) ⌝ }
 {
     let mut s = state;
     let mut moving = p;

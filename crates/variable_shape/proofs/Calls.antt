@@ -5,7 +5,7 @@ use mathlib.Core.List.{List, [], _∷_, _++_}
 use lib.ListN.{length}
 use Rattle.parameter_interpolator.specs.declared.ParameterInterpolator.{ParameterInterpolator}
 use Rattle.parameter_interpolator.specs.Interpolator.{newInterpolator}
-use Rattle.ranges.specs.Ranges.{sixteenIn}
+use Rattle.ranges.specs.Ranges.{modulationOrGainIn}
 use Rattle.block.specs.Calls.{Call, run}
 use Rattle.block.specs.Checks.{AllPass}
 use Rattle.block.specs.Oscillator.{checksOf, callOf}
@@ -25,7 +25,7 @@ module _ (s : State) (h : stateIn s ≡ true) where
   unfolding stateIn
   valid-of f = let e = each-of _ h in record { master = phase-under (f .0) (e .0); slave = phase-under (f .1 .0) (e .1 .0); ranges = h }
 
-  pub modulation-in : sixteenIn (s .«phase_modulation») ≡ true
+  pub modulation-in : modulationOrGainIn (s .«phase_modulation») ≡ true
   unfolding stateIn
   modulation-in = each-of _ h .1 .1 .1 .1 .1 .1 .1 .0
 

@@ -4,7 +4,7 @@ use mathlib.Core.Bool.{Bool, _&&_, cond}
 use native.Mathlib.Omega.{arith}
 use lib.Ieee.{Float, le}
 use Rattle.floats.specs.F32.{_⊖_, one32}
-use Rattle.floats.proofs.Turn.{turn-1, turn-sum}
+use Rattle.floats.proofs.PhaseSteps.{wraps-at-1, phase-sum}
 use Rattle.edges.specs.declared.Edge.{Edge}
 use Rattle.edges.specs.CrossingLoop.{Rises, Falls, Crosses, Crossable}
 use Rattle.variable_shape.specs.declared.State.{State}
@@ -28,7 +28,7 @@ crosses w = record { width = w .pw; rise = riseOf w; fall = fallOf w; rises = ri
 
 pub edge-crossable : {s : State} {steps : Steps} → Ready s steps → Crossable (steps .pw) (edgeOf s (steps .«slave_frequency»))
 edge-crossable h =
-    let z = turn-sum turn-1 (h .valid .slave .at) (h .slave .at) (omega (arith, h .valid .slave .under, h .slave .most)) in
+    let z = phase-sum wraps-at-1 (h .valid .slave .at) (h .slave .at) (omega (arith, h .valid .slave .under, h .slave .most)) in
     record { narrow = h .width; phase = record { n = z .n; at = z .at; most = z .top }; none = refl }
 
 -- the waveform has the width and the step of the sample

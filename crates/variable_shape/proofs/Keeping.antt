@@ -10,11 +10,11 @@ use lib.Ieee.{Float, le}
 use Rattle.floats.specs.F32.{_⊕_, _⊖_, _⊘_, zero32, one32}
 use Rattle.floats.proofs.At.{At}
 use Rattle.floats.proofs.Ticks.{tick, cycle, one-at, tick-pos, Sum}
-use Rattle.floats.proofs.Turn.{Step, turn-1, turn-sum, turn-wraps, turn-stays, phase-step}
+use Rattle.floats.proofs.PhaseSteps.{Step, wraps-at-1, phase-sum, phase-wraps, phase-stays, phase-step}
 use Rattle.floats.proofs.Ranges.{Under, passed-le, failed-le, mul-le, reset-time}
 use Rattle.edges.specs.declared.Edge.{Edge}
 use Rattle.rooms.specs.declared.Room.the-variants.{Unused}
-use Rattle.ranges.specs.Ranges.{sixteenIn}
+use Rattle.ranges.specs.Ranges.{modulationOrGainIn}
 use Rattle.block.specs.Limits.{Balanced}
 use Rattle.block.specs.Fit.{Inside}
 use Rattle.block.proofs.Plays.{one-most, Keeps}
@@ -106,14 +106,14 @@ module _ (s : State) (steps : Steps) (h : Ready s steps) where
       }
 
   sum : Sum (s .«master_phase» ⊕ steps .«master_frequency») (h .valid .master .n) (h .master .n) (21233664 * tick) tick
-  sum = turn-sum turn-1 (h .valid .master .at) (h .master .at) (omega (arith, h .valid .master .under, h .master .most))
+  sum = phase-sum wraps-at-1 (h .valid .master .at) (h .master .at) (omega (arith, h .valid .master .under, h .master .most))
 
   module _ (phaseOutput : Bool) where
     plain-law : le one32 (s .«master_phase» ⊕ steps .«master_frequency») ≡ false → Law true s steps (plainSample true phaseOutput s steps (s .«master_phase» ⊕ steps .«master_frequency»))
     unfolding plainSample finish
     plain-law l =
         let c = crossed-of (crosses wave) starts in
-        let m = turn-stays turn-1 sum (failed-le one-at (sum .at) l) in
+        let m = phase-stays wraps-at-1 sum (failed-le one-at (sum .at) l) in
         record {
           account = accounts (h .valid .master .at) (h .master .at) m;
           valid = after-valid _ _ _ _ (stays-under m) (c .phase);
@@ -135,7 +135,7 @@ module _ (s : State) (steps : Steps) (h : Ready s steps) where
     reset-law l =
         let masterPhase = s .«master_phase» ⊕ steps .«master_frequency» ⊖ one32 in
         let c = reset-counts (masterPhase ⊘ steps .«master_frequency») in
-        let m = turn-wraps turn-1 sum (passed-le one-at (sum .at) l) in
+        let m = phase-wraps wraps-at-1 sum (passed-le one-at (sum .at) l) in
         let time = reset-time (h .valid .master .at) (h .master .at) (h .master .some) (h .valid .master .under) (h .master .most) l in
         let slave = mul-le (time .at) (h .slave .at) (time .most) in
         record {
@@ -162,7 +162,7 @@ module _ (s : State) (steps : Steps) (h : Ready s steps) where
 -- the steps of a sample that passed the walk
 module _ (s : State) (v : Valid s) where
   -- phase modulation lies in its room, or is the state's own
-  modulation-step : (phaseOutput : Bool) (steps : List Float) → Inside (rooms phaseOutput) steps → sixteenIn (cond phaseOutput (getD steps 4 zero32) (s .«phase_modulation»)) ≡ true
+  modulation-step : (phaseOutput : Bool) (steps : List Float) → Inside (rooms phaseOutput) steps → modulationOrGainIn (cond phaseOutput (getD steps 4 zero32) (s .«phase_modulation»)) ≡ true
   modulation-step true steps i = inside-at Unused zero32 4 (rooms true) steps (omega arith) i .room
   modulation-step false steps i = modulation-in s (v .ranges)
 

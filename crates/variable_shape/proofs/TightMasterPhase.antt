@@ -10,12 +10,12 @@ use borrow.Fn.World.{World, Pr}
 use Rattle.floats.proofs.Contracts.{Determines, coincide}
 use Rattle.block.proofs.Contracts.{same-answer}
 use Rattle.variable_shape.specs.declared.master_phase.PhaseSet.{PhaseSet}
-use Rattle.variable_shape.specs.MasterPhase.{Setting, leftSet}
+use Rattle.variable_shape.specs.MasterPhase.{Setting, asSetting}
 use Rattle.variable_shape.proofs.master_phase.set_master_phase
 use Rattle.variable_shape.proofs.master_phase.set_master_phase_in as lent
 
 -- what is left, in 01's numbers, tells answer and state
-same-set : (r q : PhaseSet) → leftSet r ≡ leftSet q → r ≡ q
+same-set : (r q : PhaseSet) → asSetting r ≡ asSetting q → r ≡ q
 same-set r q e =
     let answer = same-answer (r .answer) (q .answer) (ap (λ (c : Setting). c .number) e) (ap (λ (c : Setting). c .index) e) in
     let state = ap (λ (c : Setting). c .state) e in

@@ -1,4 +1,5 @@
 -- The variable shape as an oscillator of `block`: variable_shape_oscillator.rs, lines 57 to 211, with 01's checks before it. Assumes nothing.
+use Rattle.block.specs.Checks.{_unless_}
 use mathlib.Core.Bool.{Bool, cond}
 use mathlib.Core.List.{List, [], _∷_}
 use Prim.Native.Nat.{ℕ}
@@ -8,9 +9,9 @@ use Rattle.floats.specs.F32.{eight32}
 use Rattle.parameter_interpolator.specs.declared.ParameterInterpolator.{ParameterInterpolator}
 use Rattle.parameter_interpolator.specs.Interpolator.{newInterpolator}
 use Rattle.rooms.specs.declared.Room.{Room}
-use Rattle.rooms.specs.declared.Room.the-variants.{Frequency, PulseWidth, Waveshape, Sixteen}
+use Rattle.rooms.specs.declared.Room.the-variants.{Frequency, PulseWidth, Waveshape, ModulationOrGain}
 use Rattle.ranges.specs.Targets.{clipped, clampedWidth}
-use Rattle.ranges.specs.Ranges.{within, phaseIn, frequencyIn, parameterFrequencyIn, unitIn, waveshapeIn, sixteenIn, allOf}
+use Rattle.ranges.specs.Ranges.{within, phaseIn, frequencyIn, parameterFrequencyIn, unitIn, waveshapeIn, modulationOrGainIn, allOf}
 use Rattle.block.specs.Calls.{Call, gave}
 use Rattle.block.specs.Oscillator.{Oscillator, callOf}
 use Rattle.variable_shape.specs.declared.State.{State}
@@ -28,7 +29,7 @@ stateIn s =
     ∷ frequencyIn (s .«slave_frequency»)
     ∷ unitIn (s .pw)
     ∷ waveshapeIn (s .waveshape)
-    ∷ sixteenIn (s .«phase_modulation»)
+    ∷ modulationOrGainIn (s .«phase_modulation»)
     ∷ [])
 
 -- 01, "Parameters": frequencies from MIN_FREQUENCY to 1, width and waveshape from 0 to 1, phase modulation from -8 to 8
@@ -64,7 +65,7 @@ interpolators s masterFrequency frequency pw waveshape phaseModulation phaseOutp
 
 -- and their rooms
 abbrev pub rooms : Bool → List Room
-rooms phaseOutput = Frequency ∷ Frequency ∷ PulseWidth ∷ Waveshape ∷ cond phaseOutput (Sixteen ∷ []) []
+rooms phaseOutput = Frequency ∷ Frequency ∷ PulseWidth ∷ Waveshape ∷ cond phaseOutput (ModulationOrGain ∷ []) []
 
 -- demand 3: "its phase is the one whose wraps are cycles", the master's with sync and the slave's without
 abbrev pub countedPhase : Bool → State → Float
@@ -90,5 +91,5 @@ renderOf s masterFrequency frequency pw waveshape phaseModulation sync phaseOutp
     (record { master-frequency = masterFrequency; frequency = frequency; pw = pw; waveshape = waveshape; phase-modulation = phaseModulation; phase-output = phaseOutput; buffer = xs })
 
 -- what a call returned and left in the buffer, in 01's numbers
-abbrev pub left : Rendered → List Float → Call State
-left r xs = gave (r .answer) (r .state) (r .counts) xs
+abbrev pub asCall : Rendered → List Float → Call State
+asCall r xs = gave (r .answer) (r .state) (r .counts) xs

@@ -36,5 +36,5 @@ masterPhaseSet s phase =
     (record { number = 4; index = 0; state = s })
 
 -- what a call returned, in 01's numbers
-abbrev pub leftSet : PhaseSet → Setting
-leftSet r = record { number = numberOf (r .answer); index = indexOf (r .answer); state = r .state }
+abbrev pub asSetting : PhaseSet → Setting
+asSetting r = record { number = numberOf (r .answer); index = indexOf (r .answer); state = r .state }

@@ -7,9 +7,9 @@ use Rattle.floats.proofs.Ticks.{tick, cycle}
 use Rattle.floats.proofs.Ranges.{Under, Positive}
 use Rattle.block.specs.declared.Answer.{Answer}
 use Rattle.rooms.specs.declared.Room.{Room}
-use Rattle.rooms.specs.declared.Room.the-variants.{Unused, Sixteen}
+use Rattle.rooms.specs.declared.Room.the-variants.{Unused, ModulationOrGain}
 use Rattle.block.specs.Counting.{noCounts}
-use Rattle.ranges.specs.Ranges.{waveshapeIn, sixteenIn}
+use Rattle.ranges.specs.Ranges.{waveshapeIn, modulationOrGainIn}
 use Rattle.variable_shape.specs.declared.State.{State}
 use Rattle.variable_shape.specs.declared.Rendered.{Rendered}
 use Rattle.variable_shape.specs.declared.steps.Steps.{Steps}
@@ -28,11 +28,11 @@ pub record Ready (s : State) (steps : Steps) : Type 0 where
   pub slave : Positive (steps .«slave_frequency») (4456448 * tick)
   pub width : Under (steps .pw) cycle
   pub waveshape : waveshapeIn (steps .waveshape) ≡ true
-  pub modulation : sixteenIn (steps .«phase_modulation») ≡ true
+  pub modulation : modulationOrGainIn (steps .«phase_modulation») ≡ true
 
 abbrev pub refused : Answer → State → Rendered
 refused answer s = record { answer = answer; state = s; counts = noCounts }
 
 -- the fifth room of the walk
 abbrev pub modulationRoom : Bool → Room
-modulationRoom phaseOutput = cond phaseOutput Sixteen Unused
+modulationRoom phaseOutput = cond phaseOutput ModulationOrGain Unused

@@ -6,7 +6,7 @@ ghost use Rattle.block.specs.Calls.{run};
 ghost use Rattle.block.specs.Fit.{Fit, Playable, playedOf};
 ghost use Rattle.variable_shape.specs.State.{newState, initState};
 ghost use Rattle.variable_shape.specs.Sample.{sampleAt};
-ghost use Rattle.variable_shape.specs.Block.{stateIn, parametersIn, interpolators as interpolatorsTo, rooms, renderOf, left};
+ghost use Rattle.variable_shape.specs.Block.{stateIn, parametersIn, interpolators as interpolatorsTo, rooms, renderOf, asCall};
 ghost use Rattle.variable_shape.specs.Private.{Valid, refused, modulationRoom};
 use block::Answer;
 use block::Counts;
@@ -96,7 +96,7 @@ pub fn render(
     phase_output: bool,
     out: &mut [f32],
 ) -> Rendered
-    ensures { λ r. ⌜ left r (now (out .exit)) ≡ renderOf state «master_frequency» frequency pw waveshape «phase_modulation» sync «phase_output» (now (out .entry)) ⌝ }
+    ensures { λ r. ⌜ asCall r (now (out .exit)) ≡ renderOf state «master_frequency» frequency pw waveshape «phase_modulation» sync «phase_output» (now (out .entry)) ⌝ }
 {
     if out.len() > 4096 {
         return refuse(Answer::LongBlock, state);
@@ -130,7 +130,7 @@ fn state_in(s: State) -> bool
         & ranges::frequency_in(s.slave_frequency)
         & ranges::unit_in(s.pw)
         & ranges::waveshape_in(s.waveshape)
-        & ranges::sixteen_in(s.phase_modulation)
+        & ranges::modulation_or_gain_in(s.phase_modulation)
 }
 
 fn parameters_in(
@@ -188,7 +188,7 @@ fn modulation_room(phase_output: bool) -> Room
     ensures { λ r. ⌜ r ≡ modulationRoom «phase_output» ⌝ }
 {
     if phase_output {
-        Room::Sixteen
+        Room::ModulationOrGain
     } else {
         Room::Unused
     }
@@ -203,7 +203,7 @@ fn drift_or_play(
     out: &mut [f32],
 ) -> Rendered
     requires { ⌜ Fit Valid state (now out) ⌝ }
-    ensures { λ r. ⌜ left r (now (out .exit)) ≡ run (sampleAt sync «phase_output») (rooms «phase_output») (used (rooms «phase_output») p) state (now (out .entry)) ⌝ }
+    ensures { λ r. ⌜ asCall r (now (out .exit)) ≡ run (sampleAt sync «phase_output») (rooms «phase_output») (used (rooms «phase_output») p) state (now (out .entry)) ⌝ }
 {
     let kept = [
         Room::Frequency,
@@ -227,7 +227,7 @@ fn play(
     out: &mut [f32],
 ) -> Rendered
     requires { ⌜ Playable Valid (rooms «phase_output») state (used (rooms «phase_output») p) (now out) ⌝ }
-    ensures { λ r. ⌜ left r (now (out .exit)) ≡ playedOf (sampleAt sync «phase_output») state (used (rooms «phase_output») p) (now (out .entry)) ⌝ }
+    ensures { λ r. ⌜ asCall r (now (out .exit)) ≡ playedOf (sampleAt sync «phase_output») state (used (rooms «phase_output») p) (now (out .entry)) ⌝ }
 {
     let mut s = state;
     let mut moving = p;

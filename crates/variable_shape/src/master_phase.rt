@@ -1,6 +1,6 @@
 // The variable shape's master phase set from outside, by value and on a lent state: the source's oscillator/variable_shape_oscillator.rs, lines 51 to 53.
 ghost use mathlib.Core.Path.{_≡_};
-ghost use Rattle.variable_shape.specs.MasterPhase.{masterPhaseSet, leftSet};
+ghost use Rattle.variable_shape.specs.MasterPhase.{masterPhaseSet, asSetting};
 use crate::State;
 use block::Answer;
 
@@ -11,7 +11,7 @@ pub struct PhaseSet {
 }
 
 pub fn set_master_phase(state: State, phase: f32) -> PhaseSet
-    ensures { λ r. ⌜ leftSet r ≡ masterPhaseSet state phase ⌝ }
+    ensures { λ r. ⌜ asSetting r ≡ masterPhaseSet state phase ⌝ }
 {
     if ranges::phase_in(phase) {
         let mut set = state;
@@ -30,7 +30,7 @@ pub fn set_master_phase(state: State, phase: f32) -> PhaseSet
 
 // The same on a state that is lent, as the source has it.
 pub fn set_master_phase_in(state: &mut State, phase: f32) -> Answer
-    ensures { λ r. ⌜ leftSet (record { answer = r; state = now (state .exit) }) ≡ masterPhaseSet (now (state .entry)) phase ⌝ }
+    ensures { λ r. ⌜ asSetting (record { answer = r; state = now (state .exit) }) ≡ masterPhaseSet (now (state .entry)) phase ⌝ }
 {
     let r = set_master_phase(*state, phase);
     *state = r.state;

@@ -2,7 +2,7 @@
 -- Assumes nothing.
 use mathlib.Core.Path.{_≡_, refl, sym, ap, _∙_, subst}
 use mathlib.Core.Bool.{true, false}
-use Prim.Native.Nat.{ℕ, _+_, _*_, _/_, _%_, _^_, _≤_, _<_}
+use Prim.Native.Nat.{ℕ, _+_, _*_, _/_, _%_, _^_, _≤_, _<_, _-_}
 use native.Mathlib.Nat as Nat
 use native.Mathlib.Nat.{le-of-eq, lt-of-le-of-lt, div-lt-iff-lt-mul, not-le-of-lt, le-of-mul-le-mul-right, lt-of-mul-lt-mul-right, mul-div-cancel, mul-div-mul-right, zero-add}
 use native.Mathlib.Omega.{arith}

@@ -8,7 +8,7 @@ use lib.Dec.{leb, eqb}
 use lib.ListN.{length}
 use borrow.Author.Tests.{eqb-true}
 use Rattle.block.specs.Calls.{Call, refusal}
-use Rattle.block.specs.Checks.{Check, FirstFailing, here, later}
+use Rattle.block.specs.Checks.{Check, FirstFailing, here, later, _unless_}
 use Rattle.block.specs.Oscillator.{Oscillator, checksOf, callOf, Way, refused, drifted, answered}
 use Rattle.block.proofs.Ways.{not-done, refused-by, goes, way}
 use Rattle.block.proofs.Oscillators.{answered-or-as-given, empty-answered}

@@ -22,10 +22,4 @@ pub on-silence-spec : {M : Type 1} → statement M
 on-silence-spec =
     tie.close
     (tie.spec
-    (λ c κs. search needs)
-    (λ c. search needs)
-    (λ c. search needs)
-    part-buffer-end
-    (λ c κs. search needs)
-    (λ c. search needs)
-    returns)
+    (λ c κs. search needs) (λ c. search needs) (λ c. search needs) part-buffer-end (λ c κs. search needs) (λ c. search needs) returns)

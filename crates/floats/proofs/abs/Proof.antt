@@ -55,6 +55,5 @@ pub abs-spec : {M : Type 1} → statement M
 abs-spec =
     tie.close
     (tie.spec
-    (λ c. below _ (c .if1 .taken))
-    (λ c. equal _ (subst T (sym (c .before .before .good .0 .1)) tt) (c .if2 .taken))
+    (λ c. below _ (c .if1 .taken)) (λ c. equal _ (subst T (sym (c .before .before .good .0 .1)) tt) (c .if2 .taken))
     (λ c. above _ (c .before .if1 .left) (c .if2 .left)))

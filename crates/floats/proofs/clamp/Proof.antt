@@ -7,6 +7,4 @@ pub clamp-spec : {M : Type 1} → statement M
 clamp-spec =
     tie.close
     (tie.spec
-    (λ c κs. search needs)
-    (λ c. rw (← c .before .at-least .ensures, c .if1 .taken))
-    (λ c. rw (← c .before .at-least .ensures, c .if1 .left)))
+    (λ c κs. search needs) (λ c. rw (← c .before .at-least .ensures, c .if1 .taken)) (λ c. rw (← c .before .at-least .ensures, c .if1 .left)))

@@ -1,4 +1,5 @@
 -- `heard::say_records` is safe and ends: the measure is the number of records left. Nothing else has to hold from turn to turn. Assumes nothing.
+use Prim.Native.Nat.{_-_}
 use borrow.Author.Needs.{needs}
 use Rattle.heard.proofs.say_records.Statement.{statement}
 use Rattle.heard.proofs.say_records.Tie as tie
@@ -13,14 +14,5 @@ pub say-records-spec : {M : Type 1} → statement M
 say-records-spec =
     tie.close
     (tie.spec
-    Inv-loop
-    μ-loop
-    (λ c κs. search needs)
-    (λ c. search needs)
-    (λ c κs. search needs)
-    (λ c. search needs)
-    (λ c κs. search needs)
-    (λ c. search needs)
-    (λ c. search needs)
-    (λ c. search needs)
-    (λ c. search needs))
+    Inv-loop μ-loop (λ c κs. search needs) (λ c. search needs) (λ c κs. search needs) (λ c. search needs) (λ c κs. search needs) (λ c. search needs)
+    (λ c. search needs) (λ c. search needs) (λ c. search needs))

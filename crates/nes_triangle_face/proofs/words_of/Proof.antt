@@ -10,9 +10,5 @@ unfolding wordsOf
 words-of-spec =
     tie.close
     (tie.spec
-    (λ c κs. search needs)
-    (λ c κs. search needs)
-    (λ c κs. search needs)
-    (λ c κs. search needs)
-    (λ c κs. search needs)
+    (λ c κs. search needs) (λ c κs. search needs) (λ c κs. search needs) (λ c κs. search needs) (λ c κs. search needs)
     (λ c. cc (toZ-ofZ (record { sfits = c .before .before .before .struct-told .given .1 .1 .0 .1 }))))

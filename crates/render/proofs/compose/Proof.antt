@@ -35,11 +35,4 @@ pub compose-spec : {M : Type 1} → statement M
 compose-spec =
     tie.close
     (tie.spec
-    (λ c κs. search needs)
-    records-requires
-    (λ c κs. search needs)
-    (λ c κs. search needs)
-    (λ c. search needs)
-    returns
-    (λ c. search needs)
-    returns-2)
+    (λ c κs. search needs) records-requires (λ c κs. search needs) (λ c κs. search needs) (λ c. search needs) returns (λ c. search needs) returns-2)

@@ -3,7 +3,7 @@ use Rattle.bank.specs.Bank.{recordPlayed}
 use Rattle.render.specs.Private.{saidOf}
 use mathlib.Core.List.{List}
 use mathlib.Core.Path.{_∙_, ap}
-use Prim.Native.Nat.{ℕ}
+use Prim.Native.Nat.{ℕ, _-_}
 use Rattle.render.proofs.Loop.{Running, running-start, running-more, running-end}
 use borrow.Author.Needs.{needs}
 use Rattle.render.proofs.records.Statement.{statement}
@@ -42,16 +42,5 @@ pub records-spec : {M : Type 1} → statement M
 records-spec =
     tie.close
     (tie.spec
-    Inv-loop
-    μ-loop
-    start-requires
-    loop-holds
-    record-requires
-    play-requires
-    (λ c. search needs)
-    (λ c κs. search needs)
-    (λ c. search needs)
-    (λ c. search needs)
-    loop-again
-    (λ c. search needs)
-    returns)
+    Inv-loop μ-loop start-requires loop-holds record-requires play-requires (λ c. search needs) (λ c κs. search needs) (λ c. search needs)
+    (λ c. search needs) loop-again (λ c. search needs) returns)

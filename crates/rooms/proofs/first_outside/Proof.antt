@@ -1,6 +1,6 @@
 -- `rooms::first_outside` meets its contract: the laws of its two loops are in `Walks`. Assumes nothing.
 use mathlib.Core.Path.{_≡_, _∙_}
-use Prim.Native.Nat.{_≤_}
+use Prim.Native.Nat.{_≤_, _-_}
 use native.Mathlib.Omega.{arith}
 use lib.ListN.{length}
 use borrow.Author.Needs.{needs}
@@ -60,24 +60,6 @@ pub first-outside-spec : {M : Type 1} → statement M
 first-outside-spec =
     tie.close
     (tie.spec
-    Inv-loop
-    μ-loop
-    Inv-walk
-    μ-walk
-    walk-holds
-    loop-holds
-    (λ c. search needs)
-    (λ c. search needs)
-    (λ c κs. search needs)
-    (λ c. search needs)
-    (λ c. search needs)
-    (λ c. search needs)
-    (λ c κs. search needs)
-    (λ c. search needs)
-    (λ c. search needs)
-    loop-again
-    (λ c. search needs)
-    (λ c. search needs)
-    walk-again
-    returns
-    returns-2)
+    Inv-loop μ-loop Inv-walk μ-walk walk-holds loop-holds (λ c. search needs) (λ c. search needs) (λ c κs. search needs) (λ c. search needs)
+    (λ c. search needs) (λ c. search needs) (λ c κs. search needs) (λ c. search needs) (λ c. search needs) loop-again (λ c. search needs)
+    (λ c. search needs) walk-again returns returns-2)

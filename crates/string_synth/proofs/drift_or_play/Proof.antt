@@ -26,12 +26,5 @@ pub drift-or-play-spec : {M : Type 1} → statement M
 drift-or-play-spec =
     tie.close
     (tie.spec
-    (λ c. search needs)
-    (λ c κs. search needs)
-    (λ c. search needs)
-    (λ c κs. search needs)
-    (λ c. search needs)
-    play-requires
-    returns
-    (λ c. search needs)
-    returns-2)
+    (λ c. search needs) (λ c κs. search needs) (λ c. search needs) (λ c κs. search needs) (λ c. search needs) play-requires returns
+    (λ c. search needs) returns-2)

@@ -1,4 +1,5 @@
 -- `string_synth::registration_in` meets its contract: the loop's law stands in `Registrations`. Assumes nothing.
+use Prim.Native.Nat.{_-_}
 use lib.ListN.{length}
 use borrow.Author.Needs.{needs}
 use Rattle.string_synth.proofs.Registrations.{Tested, tested-start, tested-more, tested-end}
@@ -24,13 +25,5 @@ pub registration-in-spec : {M : Type 1} → statement M
 registration-in-spec =
     tie.close
     (tie.spec
-    Inv-loop
-    μ-loop
-    loop-holds
-    (λ c. search needs)
-    (λ c. search needs)
-    (λ c κs. search needs)
-    (λ c. search needs)
-    (λ c. search needs)
-    loop-again
+    Inv-loop μ-loop loop-holds (λ c. search needs) (λ c. search needs) (λ c κs. search needs) (λ c. search needs) (λ c. search needs) loop-again
     returns)

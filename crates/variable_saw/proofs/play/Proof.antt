@@ -1,4 +1,5 @@
 -- `variable_saw::play` meets its contract: the loop's law is `block`'s, for any oscillator. Assumes nothing.
+use Prim.Native.Nat.{_-_}
 use native.Mathlib.Omega.{arith}
 use lib.Dec.{lit<}
 use lib.ListN.{length}
@@ -32,20 +33,7 @@ pub play-spec : {M : Type 1} → statement M
 play-spec =
     tie.close
     (tie.spec
-    Inv-loop
-    μ-loop
-    (λ c κs. search needs)
-    loop-holds
-    (λ c κs. search needs)
-    (λ c. search needs)
-    (λ c. search needs)
-    (λ c. search needs)
-    (λ c κs. search needs)
-    (λ c. search needs)
-    (λ c. search needs)
-    (λ c κs. search needs)
-    (λ c. search needs)
-    (λ c. omega (arith, c .before .before .before .before .before .loop .inv .long))
-    loop-again
-    (λ c. c .before .loop .inv .long)
+    Inv-loop μ-loop (λ c κs. search needs) loop-holds (λ c κs. search needs) (λ c. search needs) (λ c. search needs) (λ c. search needs)
+    (λ c κs. search needs) (λ c. search needs) (λ c. search needs) (λ c κs. search needs) (λ c. search needs)
+    (λ c. omega (arith, c .before .before .before .before .before .loop .inv .long)) loop-again (λ c. c .before .loop .inv .long)
     (λ c. turning-end (c .before .loop .inv) (c .loop-test .left)))

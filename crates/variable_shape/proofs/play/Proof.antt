@@ -1,4 +1,5 @@
 -- `variable_shape::play` meets its contract: the loop's law is `block`'s, for any oscillator. Assumes nothing.
+use Prim.Native.Nat.{_-_}
 use mathlib.Core.Path.{refl}
 use native.Mathlib.Omega.{arith}
 use lib.ListN.{length}
@@ -54,23 +55,7 @@ pub play-spec : {M : Type 1} → statement M
 play-spec =
     tie.close
     (tie.spec
-    Inv-loop
-    μ-loop
-    (λ c κs. search needs)
-    loop-holds
-    (λ c κs. search needs)
-    (λ c. search needs)
-    (λ c. search needs)
-    (λ c. search needs)
-    (λ c. search needs)
-    (λ c. search needs)
-    (λ c κs. search needs)
-    sample-requires
-    (λ c. search needs)
-    (λ c. search needs)
-    (λ c κs. search needs)
-    (λ c. search needs)
-    (λ c. omega (arith, c .before .before .before .before .before .before .loop .inv .0 .long))
-    loop-again
-    (λ c. c .before .loop .inv .0 .long)
-    (λ c. turning-end (c .before .loop .inv .0) (c .loop-test .left)))
+    Inv-loop μ-loop (λ c κs. search needs) loop-holds (λ c κs. search needs) (λ c. search needs) (λ c. search needs) (λ c. search needs)
+    (λ c. search needs) (λ c. search needs) (λ c κs. search needs) sample-requires (λ c. search needs) (λ c. search needs) (λ c κs. search needs)
+    (λ c. search needs) (λ c. omega (arith, c .before .before .before .before .before .before .loop .inv .0 .long)) loop-again
+    (λ c. c .before .loop .inv .0 .long) (λ c. turning-end (c .before .loop .inv .0) (c .loop-test .left)))

@@ -1,7 +1,7 @@
 -- `whole_part::exponent` meets its contract. The loop's invariant: `next` is where the exponent after `exponent` begins, and the
 -- exponents passed all lie below. The measure is what is left below the bits. Assumes nothing.
 use mathlib.Core.Path.{_≡_}
-use Prim.Native.Nat.{_≤_, _+_, _*_}
+use Prim.Native.Nat.{_≤_, _+_, _*_, _-_}
 use native.Mathlib.Omega.{arith}
 use Rattle.whole_part.proofs.exponent.Statement.{statement}
 use Rattle.whole_part.proofs.exponent.Tie as tie

@@ -8,7 +8,5 @@ pub scale-spec : {M : Type 1} → statement M
 scale-spec =
     tie.close
     (tie.spec
-    (λ c. search needs)
-    (λ c κs. search needs)
-    (λ c. rw (ne-eqb _ 2 (c .before .if1 .taken), c .nearest-u32-to-f32 .ensures))
+    (λ c. search needs) (λ c κs. search needs) (λ c. rw (ne-eqb _ 2 (c .before .if1 .taken), c .nearest-u32-to-f32 .ensures))
     (λ c. rw (eq-eqb _ 2 (c .if1 .left))))

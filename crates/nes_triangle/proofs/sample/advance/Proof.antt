@@ -1,6 +1,6 @@
 -- `nes_triangle::sample::advance` meets its contract. Assumes nothing.
 use mathlib.Core.Bool.{not}
-use Rattle.nes_triangle.proofs.Turns.{wrap-enough, advanced}
+use Rattle.nes_triangle.proofs.Stepping.{wrap-enough, stepped-is}
 use borrow.Author.Needs.{needs}
 use Rattle.nes_triangle.proofs.sample.advance.Statement.{statement}
 use Rattle.nes_triangle.proofs.sample.advance.Tie as tie
@@ -13,7 +13,7 @@ returns c =
     let n = c .before in
     let u = n .before .before in
     let w = u .before in
-    advanced _ _ _ _ _ _ _ (w .whole-part .ensures) (u .on-step .ensures) (c .wrap-phase .ensures) (n .wrap-step .ensures)
+    stepped-is _ _ _ _ _ _ _ (w .whole-part .ensures) (u .on-step .ensures) (c .wrap-phase .ensures) (n .wrap-step .ensures)
 
 pub advance-spec : {M : Type 1} → statement M
 advance-spec =

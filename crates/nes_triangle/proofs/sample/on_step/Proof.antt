@@ -8,5 +8,4 @@ pub on-step-spec : {M : Type 1} → statement M
 on-step-spec =
     tie.close
     (tie.spec
-    (λ c. search needs)
-    (λ c. is-whole (c .before .before .args .whole) (c .before .before .args .s .step) (c .before .before .pre) (search needs)))
+    (λ c. search needs) (λ c. is-whole (c .before .before .args .whole) (c .before .before .args .s .step) (c .before .before .pre) (search needs)))

@@ -19,7 +19,4 @@ pub peak-spec : {M : Type 1} → statement M
 peak-spec =
     tie.close
     (tie.spec
-    (λ c κs. search needs)
-    (λ c κs. search needs)
-    returns
-    returns-2)
+    (λ c κs. search needs) (λ c κs. search needs) returns returns-2)

@@ -1,6 +1,6 @@
 -- `nes_triangle::sample::sample` meets its contract. Assumes nothing.
 use mathlib.Core.Path.{refl}
-use Rattle.nes_triangle.proofs.Turns.{finishable}
+use Rattle.nes_triangle.proofs.Stepping.{finishable}
 use Rattle.nes_triangle.specs.Sample.{sampleOf}
 use borrow.Author.Needs.{needs}
 use Rattle.nes_triangle.proofs.sample.sample.Statement.{statement}

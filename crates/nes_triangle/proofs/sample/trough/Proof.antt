@@ -19,7 +19,4 @@ pub trough-spec : {M : Type 1} → statement M
 trough-spec =
     tie.close
     (tie.spec
-    (λ c κs. search needs)
-    (λ c κs. search needs)
-    returns
-    returns-2)
+    (λ c κs. search needs) (λ c κs. search needs) returns returns-2)

@@ -7,6 +7,4 @@ pub clamp-width-spec : {M : Type 1} → statement M
 clamp-width-spec =
     tie.close
     (tie.spec
-    (λ c κs. search needs)
-    (λ c. rw (c .if1 .taken))
-    (λ c. rw (c .before .if1 .left) (c .clamp .ensures)))
+    (λ c κs. search needs) (λ c. rw (c .if1 .taken)) (λ c. rw (c .before .if1 .left) (c .clamp .ensures)))

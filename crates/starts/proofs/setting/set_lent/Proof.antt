@@ -44,7 +44,7 @@ use denote.Triple.Walked.{says, Stays, stay-none, walkOf, goes-none, Walks, ends
 use denote.Exit.{yes}
 use Rattle.variable_shape.specs.declared.State.{State}
 use Rattle.variable_shape.specs.declared.master_phase.PhaseSet.{PhaseSet}
-use Rattle.variable_shape.specs.MasterPhase.{masterPhaseSet, leftSet}
+use Rattle.variable_shape.specs.MasterPhase.{masterPhaseSet, asSetting}
 use Rattle.block.specs.declared.Answer.{Answer}
 use Rattle.block.proofs.Answer as E
 use Rattle.block.proofs.Answer.Laws as E′
@@ -96,7 +96,7 @@ module _ {M : Type 1} (𝓤 : URA M) (H : Heap 𝓤) (A : Atoms 𝓤) (W : Given
   abbrev Post : Val → SProp 𝓤
   Post = walkOf 𝓤 H A f.ended stayed (f.clauses 𝓤 H A at-mem run) .post ((tt, tt, tt, (h, (n, tt)), (mach h ∷ [], (vfloat binary32 n ∷ [], tt))), tt)
 
-  exits : (r : PhaseSet) → Is S.the-row r (set-val r ∷ []) → leftSet r ≡ masterPhaseSet h n → ent 𝓤 (emp 𝓤) (Post (set-val r))
+  exits : (r : PhaseSet) → Is S.the-row r (set-val r ∷ []) → asSetting r ≡ masterPhaseSet h n → ent 𝓤 (emp 𝓤) (Post (set-val r))
   exits r made e =
       qed W [] ∵ suffices ! _ (ends-at 𝓤 H A f.ended stayed (f.clauses 𝓤 H A at-mem run) W ((tt, tt, tt, (h, (n, tt)), (mach h ∷ [], (vfloat binary32 n ∷ [], tt))), tt) (set-val r) r (tt, (tt, tt)) (tt, (tt, tt))) $ says ! e $
       nothing ! $ owned ! f32 (Is f32) (float-makes 𝓤 H A W binary32) n _ (refl, ok) $ fjoin ! $ owned ! T.the-row (Is T.the-row) (LL.makes T.the-type T′.the-plain 𝓤 H A) h _ was $ fjoin ! $
@@ -142,8 +142,8 @@ module _ {M : Type 1} (𝓤 : URA M) (H : Heap 𝓤) (A : Atoms 𝓤) (W : Given
         calls-at ! fm (SetIn 𝓤 H A at-mem run) known (to-set α γ l₃) (and-then ! (load ! (from ! (stop !)) (look ! 4 refl)) (and-then ! (load ! (from ! (stop !)) (look ! 9 refl)) (no-more !))) (λ v.
         use1 W (later (some (λ (r : Answer). ((‵ (flft (α ∷ []) fullShare) ⊛ ‵ ftrue) ⊛ ‵ (E.the-row .own r (v ∷ []))) ⊛ raw (ensured 𝓤 H A g.ended (g.clauses 𝓤 H A at-mem run) (α ∷ [], tt) (lent-state α γ l₃, (n, tt)) tt r)))) (id⊢ 𝓤 _) $ await ! tt $ pick ! (λ r.
         split ! $ move ! (1 ∷ []) $
-        use1 W (some (λ (ws : Ended α γ l₃). ‵ (lasts g.ended (α ∷ [], tt) (lent-state α γ l₃, (n, tt)) ws) ⊛ raw (fact 𝓤 (leftSet (result r (ws .0)) ≡ masterPhaseSet h n)))) (id⊢ 𝓤 _) $ pick ! (λ ws.
-        split ! $ move ! (1 ∷ []) $ heard ! (leftSet (result r (ws .0)) ≡ masterPhaseSet h n) (λ e. fsplit ! $ move ! (2 ∷ []) $ split ! $ split ! $ move ! (2 ∷ []) $
+        use1 W (some (λ (ws : Ended α γ l₃). ‵ (lasts g.ended (α ∷ [], tt) (lent-state α γ l₃, (n, tt)) ws) ⊛ raw (fact 𝓤 (asSetting (result r (ws .0)) ≡ masterPhaseSet h n)))) (id⊢ 𝓤 _) $ pick ! (λ ws.
+        split ! $ move ! (1 ∷ []) $ heard ! (asSetting (result r (ws .0)) ≡ masterPhaseSet h n) (λ e. fsplit ! $ move ! (2 ∷ []) $ split ! $ split ! $ move ! (2 ∷ []) $
         -- [what the answer owns; the token; true; the last state; true; the lender's part; _6; …; _5; …; _4; …; … of _3; _2; …; _1; …; _0; …]
         peeks ! E.the-row (Is E.the-row) (shows 𝓤 H A E.the-row) r (v ∷ []) (λ is.
         land ! (from ! (stop !)) (init ! 10 refl (LE.lawful E.the-type E′.the-laws 𝓤 H A W tt .typed r _ is .0)) $

@@ -8,5 +8,4 @@ pub in-segment-spec : {M : Type 1} → statement M
 in-segment-spec =
     tie.close
     (tie.spec
-    (λ c. search needs)
-    (λ c. is-whole (c .before .before .args .whole) (c .before .before .args .s .segment) (c .before .before .pre) (search needs)))
+    (λ c. search needs) (λ c. is-whole (c .before .before .args .whole) (c .before .before .args .s .segment) (c .before .before .pre) (search needs)))

@@ -1,5 +1,6 @@
 -- `string_synth::targets::lower` meets its contract: the loop's law stands in `Octaves`. Each turn brings the shift nearer to 8, so the
 -- loop ends for every float. Assumes nothing.
+use Prim.Native.Nat.{_-_}
 use native.Mathlib.Omega.{arith}
 use Rattle.string_synth.proofs.Octaves.{Lowering, lowering-start, lowering-below, lowering-more, lowering-end}
 use Rattle.string_synth.proofs.targets.lower.Statement.{statement}

@@ -8,7 +8,4 @@ pub placed-spec : {M : Type 1} → statement M
 placed-spec =
     tie.close
     (tie.spec
-    (λ c. search needs)
-    (λ c. search needs)
-    (λ c. rw (lt-ltb _ _ (c .if1 .taken)))
-    (λ c. rw (le-ltb _ _ (c .before .if1 .left))))
+    (λ c. search needs) (λ c. search needs) (λ c. rw (lt-ltb _ _ (c .if1 .taken))) (λ c. rw (le-ltb _ _ (c .before .if1 .left))))

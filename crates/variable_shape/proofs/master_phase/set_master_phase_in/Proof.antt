@@ -43,7 +43,7 @@ use denote.Triple.Walked.{says, Stays, stay-ref, stay-none, walkOf, goes-none, g
 use denote.Exit.{yes}
 use Rattle.variable_shape.specs.declared.State.{State}
 use Rattle.variable_shape.specs.declared.master_phase.PhaseSet.{PhaseSet}
-use Rattle.variable_shape.specs.MasterPhase.{masterPhaseSet, leftSet}
+use Rattle.variable_shape.specs.MasterPhase.{masterPhaseSet, asSetting}
 use Rattle.block.specs.declared.Answer.{Answer}
 use Rattle.block.proofs.Answer as E
 use Rattle.block.proofs.Answer.Laws as E′
@@ -86,7 +86,7 @@ module _ {M : Type 1} (𝓤 : URA M) (H : Heap 𝓤) (A : Atoms 𝓤) (W : Given
   abbrev Post : Val → SProp 𝓤
   Post = walkOf 𝓤 H A f.ended stayed (f.clauses 𝓤 H A at-mem run) .post (((κ, tt), (q, tt), tt, x, at), tt)
 
-  exits : fits binary32 n ≡ true → (r : PhaseSet) → Is E.the-row (r .answer) (answer-val (r .answer) ∷ []) → leftSet r ≡ masterPhaseSet h n → ent 𝓤 (⋆ 𝓤 H A (‵ (fobs γ (T.the-row .coded .code (r .state))) ∷ ‵ (fbor κ (Body (mem T.the-row) b o γ)) ∷ ‵ (flft κ q) ∷ [])) (Post (answer-val (r .answer)))
+  exits : fits binary32 n ≡ true → (r : PhaseSet) → Is E.the-row (r .answer) (answer-val (r .answer) ∷ []) → asSetting r ≡ masterPhaseSet h n → ent 𝓤 (⋆ 𝓤 H A (‵ (fobs γ (T.the-row .coded .code (r .state))) ∷ ‵ (fbor κ (Body (mem T.the-row) b o γ)) ∷ ‵ (flft κ q) ∷ [])) (Post (answer-val (r .answer)))
   exits ok r answered e =
       qed W (‵ (fobs γ (T.the-row .coded .code (r .state))) ∷ ‵ (fbor κ (Body (mem T.the-row) b o γ)) ∷ ‵ (flft κ q) ∷ []) ∵
       suffices ! _ (ends-at 𝓤 H A f.ended stayed (f.clauses 𝓤 H A at-mem run) W (((κ, tt), (q, tt), tt, x, at), tt) (answer-val (r .answer)) (r .answer) (r .state, (tt, tt)) (tt, (tt, tt))) $ says ! e $ nothing ! $ move ! (3 ∷ 0 ∷ []) $ join ! $
@@ -99,8 +99,8 @@ module _ {M : Type 1} (𝓤 : URA M) (H : Heap 𝓤) (A : Atoms 𝓤) (W : Given
   goes-set : ent 𝓤 (sep 𝓤 (sem 𝓤 H A (T.the-row .own h (mach h ∷ []))) (sem 𝓤 H A (f32 .own n (vfloat binary32 n ∷ [])))) (SetPhase 𝓤 H A at-mem run .pre to-set)
   goes-set = qed W (‵ (T.the-row .own h (mach h ∷ [])) ∷ ‵ (f32 .own n (vfloat binary32 n ∷ [])) ∷ []) ∵ nothing ! $ move ! (2 ∷ 0 ∷ []) $ join ! $ move ! (1 ∷ 0 ∷ []) $ join ! $ nothing ! $ join ! $ frame ! $ done !
 
-  set-of : (r : PhaseSet) → ent 𝓤 (ensured 𝓤 H A g.ended (g.clauses 𝓤 H A at-mem run) tt (h, (n, tt)) tt r) (fact 𝓤 (leftSet r ≡ masterPhaseSet h n))
-  set-of r = exE 𝓤 _ (λ ws. snd∗ 𝓤 (sem 𝓤 H A (lasts g.ended tt (h, (n, tt)) ws)) (fact 𝓤 (leftSet r ≡ masterPhaseSet h n)))
+  set-of : (r : PhaseSet) → ent 𝓤 (ensured 𝓤 H A g.ended (g.clauses 𝓤 H A at-mem run) tt (h, (n, tt)) tt r) (fact 𝓤 (asSetting r ≡ masterPhaseSet h n))
+  set-of r = exE 𝓤 _ (λ ws. snd∗ 𝓤 (sem 𝓤 H A (lasts g.ended tt (h, (n, tt)) ws)) (fact 𝓤 (asSetting r ≡ masterPhaseSet h n)))
 
   -- what is known of the fields of a result
   answered : (r : PhaseSet) (v : Val) → Is S.the-row r (v ∷ []) → Is E.the-row (r .answer) (answer-val (r .answer) ∷ [])
@@ -124,7 +124,7 @@ module _ {M : Type 1} (𝓤 : URA M) (H : Heap 𝓤) (A : Atoms 𝓤) (W : Given
         move ! (1 ∷ 15 ∷ []) $ use2 W (raw (SetPhase 𝓤 H A at-mem run .pre to-set)) goes-set $
         calls-at ! fm (SetPhase 𝓤 H A at-mem run) known to-set (and-then ! (load ! (from ! (stop !)) (look ! 5 refl)) (and-then ! (load ! (from ! (stop !)) (look ! 9 refl)) (no-more !))) (λ v.
         use1 W (later (some (λ (r : PhaseSet). (‵ ftrue ⊛ ‵ (S.the-row .own r (v ∷ []))) ⊛ raw (ensured 𝓤 H A g.ended (g.clauses 𝓤 H A at-mem run) tt (h, (n, tt)) tt r)))) (id⊢ 𝓤 _) $ await ! tt $ pick ! (λ r.
-        split ! $ move ! (1 ∷ []) $ use1 W (raw (fact 𝓤 (leftSet r ≡ masterPhaseSet h n))) (set-of r) $ heard ! (leftSet r ≡ masterPhaseSet h n) (λ e. split ! $ drop ! $
+        split ! $ move ! (1 ∷ []) $ use1 W (raw (fact 𝓤 (asSetting r ≡ masterPhaseSet h n))) (set-of r) $ heard ! (asSetting r ≡ masterPhaseSet h n) (λ e. split ! $ drop ! $
         peeks ! S.the-row (Is S.the-row) (shows 𝓤 H A S.the-row) r (v ∷ []) (λ is.
         -- [what a PhaseSet owns; the struct's cell; the open borrow; obs; auth; _4; …; _3; …; _2; …; _1; …; room for _0; …; true; true]
         land ! (from ! (stop !)) (init ! 7 refl (LL.lawful S.the-type S′.the-laws 𝓤 H A W .typed r _ is .0)) $

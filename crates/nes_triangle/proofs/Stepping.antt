@@ -13,7 +13,7 @@ use lib.Ieee.{Float}
 use Rattle.floats.specs.F32.{whole32, _⊕_, _⊗_}
 use Rattle.floats.proofs.At.{At}
 use Rattle.floats.proofs.Ticks.{tick, cycle, cycle-is, tick-pos, Sum}
-use Rattle.floats.proofs.Turn.{Step, turn-1, turn-sum, turn-by}
+use Rattle.floats.proofs.PhaseSteps.{Step, wraps-at-1, phase-sum, phase-by}
 use Rattle.floats.proofs.PowerOfTwo.{mul-pow, whole-pow}
 use Rattle.floats.proofs.WholeNumbers.{whole-at}
 use Rattle.whole_part.specs.WholePart.{wholePart, isWhole}
@@ -22,9 +22,9 @@ use Rattle.block.specs.Counting.{oneIf}
 use Rattle.floats.proofs.Bools.{and-both}
 use Rattle.nes_triangle.specs.declared.State.{State}
 use Rattle.nes_triangle.specs.declared.depth.Depth.{Depth}
-use Rattle.nes_triangle.specs.declared.sample.Turn.{Turn}
+use Rattle.nes_triangle.specs.declared.sample.Stepped.{Stepped}
 use Rattle.nes_triangle.specs.Depth.{depthOf}
-use Rattle.nes_triangle.specs.Sample.{wrapPhase, wrapStep, turnOf}
+use Rattle.nes_triangle.specs.Sample.{wrapPhase, wrapStep, steppedOf}
 use Rattle.nes_triangle.specs.Private.{Ready}
 use Rattle.nes_triangle.proofs.Depths.{few-steps, top-most}
 
@@ -64,13 +64,13 @@ pub wrap-enough : (changed : Bool) (whole n : ℕ) → (changed && leb n whole) 
 wrap-enough changed whole n h = leb-true n whole (and-both changed (leb n whole) h .1)
 
 -- what a sample does to a phase of a units with a step of b, and to the state's step
-pub record Turned (d : Depth) (s : State) (frequency : Float) (bits a b : ℕ) : Type 0 where
-  pub phase : Step (turnOf d s frequency .phase) (oneIf (turnOf d s frequency .wrap)) a b cycle tick cycle
-  pub step : turnOf d s frequency .«next_step» < 2 ^ bits
+pub record StepLaw (d : Depth) (s : State) (frequency : Float) (bits a b : ℕ) : Type 0 where
+  pub phase : Step (steppedOf d s frequency .phase) (oneIf (steppedOf d s frequency .wrap)) a b cycle tick cycle
+  pub step : steppedOf d s frequency .«next_step» < 2 ^ bits
 
 module _ (d : Depth) (s : State) (frequency : Float) (h : Ready d s frequency) where
   sum : Sum (s .phase ⊕ frequency) (h .valid .phase .n) (h .some .n) (21233664 * tick) tick
-  sum = turn-sum turn-1 (h .valid .phase .at) (h .some .at) (omega (arith, h .valid .phase .under, h .some .most))
+  sum = phase-sum wraps-at-1 (h .valid .phase .at) (h .some .at) (omega (arith, h .valid .phase .under, h .some .most))
 
   low : sum .n < 2 * cycle
   low = omega (arith, sum .top, tick-pos)
@@ -83,35 +83,35 @@ module _ (d : Depth) (s : State) (frequency : Float) (h : Ready d s frequency) w
     test-is : test ≡ leb n whole
     test-is = rw at-old (wraps whole (h .valid .step .n) n (rw at-n (h .valid .step .under)))
 
-    turned-phase : Step (wrapPhase (s .phase ⊕ frequency) test) (oneIf test) (h .valid .phase .n) (h .some .n) cycle tick cycle
-    turned-phase = turn-by turn-1 sum test (test-is ∙ rw (at-n, at-whole) (whole-pow (sum .n) (h .bits)) ∙ ap (λ (k : ℕ). leb k (sum .n)) (sym cycle-is))
+    stepped-phase : Step (wrapPhase (s .phase ⊕ frequency) test) (oneIf test) (h .valid .phase .n) (h .some .n) cycle tick cycle
+    stepped-phase = phase-by wraps-at-1 sum test (test-is ∙ rw (at-n, at-whole) (whole-pow (sum .n) (h .bits)) ∙ ap (λ (k : ℕ). leb k (sum .n)) (sym cycle-is))
 
-    turned-step : wrapStep whole n test < 2 ^ h .bits
-    turned-step = subst (λ (k : ℕ). wrapStep whole n test < k) at-n (step-under whole n test test-is (rw (at-whole, at-n) (whole-under (h .bits) (h .bits-in .high) (sum .at) low)))
+    stepped-step : wrapStep whole n test < 2 ^ h .bits
+    stepped-step = subst (λ (k : ℕ). wrapStep whole n test < k) at-n (step-under whole n test test-is (rw (at-whole, at-n) (whole-under (h .bits) (h .bits-in .high) (sum .at) low)))
 
-  pub turned : Turned d s frequency (h .bits) (h .valid .phase .n) (h .some .n)
-  unfolding turnOf depthOf
-  turned =
+  pub step-law : StepLaw d s frequency (h .bits) (h .valid .phase .n) (h .some .n)
+  unfolding steppedOf depthOf
+  step-law =
       let whole = wholePart ((s .phase ⊕ frequency) ⊗ d .«num_steps_f») in
       let at-whole : whole ≡ sum .n * 2 ^ h .bits / 2 ^ 149 =
       ap (λ (e : Depth). wholePart ((s .phase ⊕ frequency) ⊗ e .«num_steps_f»)) (h .depth) ∙ whole-is (h .bits) (h .bits-in .high) (sum .at) low in
       let at-n : d .«num_steps» ≡ 2 ^ h .bits = ap (λ (e : Depth). e .«num_steps») (h .depth) in
       record {
-        phase = turned-phase whole (d .«num_steps») (s .step) at-whole (h .valid .step .is) at-n;
-        step = turned-step whole (d .«num_steps») (s .step) at-whole (h .valid .step .is) at-n;
+        phase = stepped-phase whole (d .«num_steps») (s .step) at-whole (h .valid .step .is) at-n;
+        step = stepped-step whole (d .«num_steps») (s .step) at-whole (h .valid .step .is) at-n;
       }
 
-  pub finishable : (t : Turn) → t ≡ turnOf d s frequency → (t .«next_step» ≤ d .top) × (t .«next_step» < 65536)
+  pub finishable : (t : Stepped) → t ≡ steppedOf d s frequency → (t .«next_step» ≤ d .top) × (t .«next_step» < 65536)
   unfolding depthOf
   finishable t e =
-      let u : t .«next_step» < 2 ^ h .bits = rw e (turned .step) in
+      let u : t .«next_step» < 2 ^ h .bits = rw e (step-law .step) in
       (subst (λ (e : Depth). t .«next_step» ≤ e .top) (sym (h .depth)) (top-most (2 ^ h .bits) (t .«next_step») u), omega (arith, few-steps (h .bits) (h .bits-in .high)))
 
 -- the turn, from its parts
-pub advanced : (d : Depth) (s : State) (frequency : Float) (whole : ℕ) (same : Bool) (phase : Float) (next : ℕ)
+pub stepped-is : (d : Depth) (s : State) (frequency : Float) (whole : ℕ) (same : Bool) (phase : Float) (next : ℕ)
     → whole ≡ wholePart ((s .phase ⊕ frequency) ⊗ d .«num_steps_f») → same ≡ isWhole whole (s .step)
     → (let wrap = not same && leb (d .«num_steps») whole in
     phase ≡ wrapPhase (s .phase ⊕ frequency) wrap → next ≡ wrapStep whole (d .«num_steps») wrap
-    → record { reached = s .phase ⊕ frequency; phase = phase; «next_step» = next; changed = not same; wrap = wrap } ≡ turnOf d s frequency)
-unfolding turnOf
-advanced d s frequency whole same phase next at-whole at-same at-phase at-next = rw (at-phase, at-next, at-same, at-whole)
+    → record { reached = s .phase ⊕ frequency; phase = phase; «next_step» = next; changed = not same; wrap = wrap } ≡ steppedOf d s frequency)
+unfolding steppedOf
+stepped-is d s frequency whole same phase next at-whole at-same at-phase at-next = rw (at-phase, at-next, at-same, at-whole)
