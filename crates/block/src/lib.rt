@@ -16,6 +16,7 @@ pub enum Answer {
     BadInput,
 }
 
+// The number that a caller sees.
 pub fn number(answer: Answer) -> u32
     ensures { λ r. ⌜ r ≡ numberOf answer ⌝ }
 {
@@ -32,6 +33,7 @@ pub fn number(answer: Answer) -> u32
     }
 }
 
+// The value beside it: only Drift has one, and every other answer 0.
 pub fn index(answer: Answer) -> u32
     ensures { λ r. ⌜ r ≡ indexOf answer ⌝ }
 {
@@ -55,6 +57,7 @@ pub struct Counts {
     pub cuts: u32,
 }
 
+// What a refused call counts, and what a block starts from.
 pub fn none() -> Counts
     ensures { λ r. ⌜ r ≡ noCounts ⌝ }
 {

@@ -3,6 +3,7 @@ ghost use Prim.Native.Nat.{_≤_};
 use block::Answer;
 use libc::STDOUT_FILENO;
 
+// One line for each figure, in the request's order.
 fn main() {
     say(b"super square, 4,096 samples: ", super_square_of(4096));
     say(b"super square, 4,097 samples: ", super_square_of(4097));
@@ -51,6 +52,7 @@ fn super_square_of(n: usize) -> u32
     block::number(answer)
 }
 
+// The answer of a sound call on so many samples; likewise for the saw and the NES triangle.
 fn variable_shape_of(n: usize) -> u32
     requires { ⌜ n ≤ 4097 ⌝ }
 {
@@ -61,6 +63,7 @@ fn variable_shape_of(n: usize) -> u32
     block::number(answer)
 }
 
+// The saw's.
 fn variable_saw_of(n: usize) -> u32
     requires { ⌜ n ≤ 4097 ⌝ }
 {
@@ -70,6 +73,7 @@ fn variable_saw_of(n: usize) -> u32
     block::number(answer)
 }
 
+// The NES triangle's.
 fn nes_triangle_of(n: usize) -> u32
     requires { ⌜ n ≤ 4097 ⌝ }
 {
@@ -79,6 +83,7 @@ fn nes_triangle_of(n: usize) -> u32
     block::number(answer)
 }
 
+// The string's, whose registration's length and frequency have figures too.
 fn string_synth_of(n: usize, places: usize, frequency: f32) -> u32
     requires { ⌜ (n ≤ 4097) × (places ≤ 8) ⌝ }
 {
@@ -105,6 +110,7 @@ fn drifting_saw() -> Answer {
     r.answer
 }
 
+// A figure's name and its number, as one line.
 fn say(what: &[u8], number: u32) {
     let mut space = [0u8; 64];
     let text: &mut [u8] = &mut space;

@@ -1,6 +1,7 @@
 // The call of each kind, with its fields of the record, and the line of what it left.
 use crate::record;
 
+// The line of a variable shape's call: the result, the words after it, the checksum. Likewise below for each kind.
 pub(crate) fn put_variable_shape(
     text: &mut [u8],
     record: &[u8; 128],
@@ -24,6 +25,7 @@ pub(crate) fn put_variable_shape(
     put_outcome(text, &result, words, out)
 }
 
+// The variable saw's, of seven words.
 pub(crate) fn put_variable_saw(
     text: &mut [u8],
     record: &[u8; 128],
@@ -43,6 +45,7 @@ pub(crate) fn put_variable_saw(
     put_outcome(text, &result, words, out)
 }
 
+// The super square's, of six words.
 pub(crate) fn put_super_square(
     text: &mut [u8],
     record: &[u8; 128],
@@ -61,6 +64,7 @@ pub(crate) fn put_super_square(
     put_outcome(text, &result, words, out)
 }
 
+// The NES triangle's, of five words.
 pub(crate) fn put_nes_triangle(
     text: &mut [u8],
     record: &[u8; 128],
@@ -79,6 +83,7 @@ pub(crate) fn put_nes_triangle(
     put_outcome(text, &result, words, out)
 }
 
+// The string's, of eight words; the buffer's old samples are part of its sum.
 pub(crate) fn put_string_synth(
     text: &mut [u8],
     record: &[u8; 128],
@@ -107,6 +112,7 @@ fn put_outcome(text: &mut [u8], result: &[u32; 6], words: &[u32], out: &[f32]) -
     testing::put_word(text, state, testing::checksum(out), b'\n')
 }
 
+// The six words of a result, in decimal.
 fn put_result(text: &mut [u8], result: &[u32; 6]) -> usize {
     let answer = testing::put_number(text, 0, result[0], b' ');
     let index = testing::put_number(text, answer, result[1], b' ');

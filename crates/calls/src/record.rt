@@ -2,6 +2,7 @@
 ghost use Prim.Native.Nat.{_≤_};
 ghost use lib.ListN.{length};
 
+// A float by its bits, a NaN's too.
 pub(crate) fn float_at(record: &[u8; 128], at: usize) -> f32 {
     floats::from_bits(testing::word_at(record, at))
 }
@@ -16,6 +17,7 @@ pub(crate) fn sync(record: &[u8; 128]) -> bool {
     record[1] % 2 == 1
 }
 
+// The second bit of the flags.
 pub(crate) fn phase_output(record: &[u8; 128]) -> bool {
     record[1] / 2 % 2 == 1
 }

@@ -10,6 +10,7 @@ pub(crate) fn fill(out: &mut [f32], bits: u32) {
     }
 }
 
+// The samples that a buffer holds over and over.
 fn levels_of(bits: u32) -> [f32; 8] {
     if bits == 0 {
         [0.25, 0.5, 0.75, 1.0, 1.25, 1.5, 1.75, 2.0]

@@ -9,6 +9,7 @@ use libc::STDOUT_FILENO;
 // What each sample holds before a record is played. No call leaves it: its samples are a few units large, or infinite, or NaN.
 pub(crate) const UNTOUCHED: f32 = 1.0e30;
 
+// The line of record k, from what the bank said of it and the buffer that it was lent.
 pub(crate) fn say(k: u32, outcome: Outcome, out: &[f32; 4096]) {
     let mut space = [0u8; 97];
     let text: &mut [u8] = &mut space;
@@ -19,12 +20,14 @@ pub(crate) fn say(k: u32, outcome: Outcome, out: &[f32; 4096]) {
     io::write_all(STDOUT_FILENO, testing::front(text, end));
 }
 
+// The record's index and its answer.
 fn put_head(text: &mut [u8], k: u32, answer: u32, drift: u32) -> usize {
     let index = testing::put_number(text, 0, k, b' ');
     let number = testing::put_number(text, index, answer, b' ');
     testing::put_number(text, number, drift, b' ')
 }
 
+// The counts, in the order in which a line of the renderer has them.
 fn put_counts(text: &mut [u8], at: usize, counts: Counts) -> usize {
     let cycles = testing::put_number(text, at, counts.cycles, b' ');
     let rises = testing::put_number(text, cycles, counts.rises, b' ');
@@ -32,6 +35,7 @@ fn put_counts(text: &mut [u8], at: usize, counts: Counts) -> usize {
     testing::put_number(text, falls, counts.cuts, b' ')
 }
 
+// How many samples were left, and their checksum.
 fn put_samples(text: &mut [u8], at: usize, out: &[f32; 4096]) -> usize {
     let all = &out[..];
     let n = left(all);

@@ -56,6 +56,7 @@ fn say_first(list: &[u8; 70000], n: usize) {
     say_records(testing::front(list, n), n / 64);
 }
 
+// Each record from the states that the one before left, in a buffer that holds marks before it.
 fn say_records(list: &[u8], count: usize)
     requires { ⌜ count ≤ 1024 ⌝ }
 {

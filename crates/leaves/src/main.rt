@@ -34,6 +34,7 @@ fn put_line(text: &mut [u8], record: &[u8; 12]) -> usize {
     put_steps(text, helpers, a, b, z % 65536)
 }
 
+// The four residuals and the whole part, of x alone.
 fn put_bleps(text: &mut [u8], at: usize, x: f32) -> usize {
     let this = put_float(text, at, polyblep::this_blep_sample(x), b' ');
     let next = put_float(text, this, polyblep::next_blep_sample(x), b' ');
@@ -46,6 +47,7 @@ fn put_bleps(text: &mut [u8], at: usize, x: f32) -> usize {
     )
 }
 
+// Min and max of x and y, x clamped from y to z, and abs of x.
 fn put_helpers(text: &mut [u8], at: usize, x: f32, y: f32, z: f32) -> usize {
     let whole = testing::put_word(text, at, whole_part::whole_part(x), b' ');
     let min = put_float(text, whole, floats::min(x, y), b' ');

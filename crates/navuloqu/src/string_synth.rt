@@ -2,6 +2,7 @@
 ghost use mathlib.Core.Path.{_≡_};
 ghost use Rattle.string_synth_face.specs.Words.{initWords, renderFace};
 
+// Passed on, as all below: an archive exports the functions of its own crate alone.
 #[no_mangle]
 pub extern "C" fn navuloqu_string_synth_init(words: &mut [u32; 8])
     ensures { λ r. ⌜ now (words .exit) ≡ initWords ⌝ }
@@ -9,6 +10,7 @@ pub extern "C" fn navuloqu_string_synth_init(words: &mut [u32; 8])
     string_synth_face::init(words);
 }
 
+// A block, added to what the buffer holds.
 #[no_mangle]
 pub extern "C" fn navuloqu_string_synth_render(
     words: &mut [u32; 8],

@@ -2,6 +2,7 @@
 ghost use mathlib.Core.Path.{_≡_};
 ghost use Rattle.variable_saw_face.specs.Words.{initWords, renderFace};
 
+// Passed on, as all below: an archive exports the functions of its own crate alone.
 #[no_mangle]
 pub extern "C" fn navuloqu_variable_saw_init(words: &mut [u32; 7])
     ensures { λ r. ⌜ now (words .exit) ≡ initWords ⌝ }
@@ -9,6 +10,7 @@ pub extern "C" fn navuloqu_variable_saw_init(words: &mut [u32; 7])
     variable_saw_face::init(words);
 }
 
+// A block.
 #[no_mangle]
 pub extern "C" fn navuloqu_variable_saw_render(
     words: &mut [u32; 7],

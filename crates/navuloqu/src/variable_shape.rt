@@ -2,6 +2,7 @@
 ghost use mathlib.Core.Path.{_≡_};
 ghost use Rattle.variable_shape_face.specs.Words.{initWords, renderFace, setFace};
 
+// Passed on, as all below: an archive exports the functions of its own crate alone.
 #[no_mangle]
 pub extern "C" fn navuloqu_variable_shape_init(words: &mut [u32; 10])
     ensures { λ r. ⌜ now (words .exit) ≡ initWords ⌝ }
@@ -9,6 +10,7 @@ pub extern "C" fn navuloqu_variable_shape_init(words: &mut [u32; 10])
     variable_shape_face::init(words);
 }
 
+// A block.
 #[no_mangle]
 pub extern "C" fn navuloqu_variable_shape_render(
     words: &mut [u32; 10],
@@ -38,6 +40,7 @@ pub extern "C" fn navuloqu_variable_shape_render(
     );
 }
 
+// Only the first word changes, and only where the phase is in its range.
 #[no_mangle]
 pub extern "C" fn navuloqu_variable_shape_set_master_phase(words: &mut [u32; 10], phase: f32) -> u32
     ensures { λ r. ⌜ record { words = now (words .exit); number = r } ≡ setFace (now (words .entry)) phase ⌝ }

@@ -77,12 +77,14 @@ pub fn render(state: State, frequency: f32, num_bits: u32, out: &mut [f32]) -> R
     drift_or_play(state, num_bits, interpolators(state, frequency, n), out)
 }
 
+// 01's ranges of a state. The step's end goes by the bits of this call.
 fn state_in(s: State, num_bits: u32) -> bool
     ensures { λ r. ⌜ r ≡ stateIn s «num_bits» ⌝ }
 {
     ranges::phase_in(s.phase) & ranges::frequency_in(s.frequency) & step_in(s.step, num_bits)
 }
 
+// A step is signed, as in the source: a negative one is no step.
 fn step_in(step: i32, num_bits: u32) -> bool
     ensures { λ r. ⌜ r ≡ stepIn «num_bits» step ⌝ }
 {
@@ -93,12 +95,14 @@ fn step_in(step: i32, num_bits: u32) -> bool
     }
 }
 
+// 01's ranges of a call's parameters.
 fn parameters_in(frequency: f32, num_bits: u32) -> bool
     ensures { λ r. ⌜ r ≡ parametersIn frequency «num_bits» ⌝ }
 {
     ranges::parameter_frequency_in(frequency) & depth::bits_in(num_bits)
 }
 
+// The state as given, and nothing counted.
 fn refuse(answer: Answer, state: State) -> Rendered
     ensures { λ r. ⌜ r ≡ refused answer state ⌝ }
 {

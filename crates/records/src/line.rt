@@ -5,6 +5,7 @@ use jobs::Job;
 use jobs::Settings;
 use libc::STDOUT_FILENO;
 
+// The line of one job record.
 pub(crate) fn say(job: Job) {
     let mut space = [0u8; 144];
     let text: &mut [u8] = &mut space;
@@ -24,6 +25,7 @@ fn put_head(text: &mut [u8], kind: u32, length: u16) -> usize {
     testing::put_number(text, at, length as u32, b' ')
 }
 
+// The kind's number, the length, and the settings that this kind has.
 fn put_settings(text: &mut [u8], settings: Settings, length: u16) -> usize {
     match settings {
         Settings::VariableShape {
@@ -72,16 +74,19 @@ fn put_three(
     put_float(text, two, third)
 }
 
+// Two settings that are floats, after the head.
 fn put_two(text: &mut [u8], kind: u32, length: u16, first: f32, second: f32) -> usize {
     let head = put_head(text, kind, length);
     let one = put_float(text, head, first);
     put_float(text, one, second)
 }
 
+// A float as its word.
 fn put_float(text: &mut [u8], at: usize, x: f32) -> usize {
     testing::put_word(text, at, floats::to_bits(x), b' ')
 }
 
+// The seven words stand in every line, whatever the kind is.
 fn put_registration(text: &mut [u8], at: usize, registration: [f32; 7]) -> usize {
     let words = [
         floats::to_bits(registration[0]),

@@ -34,6 +34,7 @@ fn say_chunk(input: &[u8; 4096], n: usize)
     }
 }
 
+// The records one after the other; a last part that is shorter than 64 bytes is one too.
 fn say_list(list: &[u8]) {
     let count = list.len() / 64;
     let mut k = 0;

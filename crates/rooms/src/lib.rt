@@ -37,6 +37,7 @@ pub enum Room {
     ModulationOrGain,
 }
 
+// Ends are taken as 01 has them, and a NaN lies in no room but that of an unused place.
 pub fn in_room(room: Room, x: f32) -> bool
     ensures { λ r. ⌜ r ≡ inRoom room x ⌝ }
 {

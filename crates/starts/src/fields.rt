@@ -14,6 +14,7 @@ pub(crate) fn of_variable_shape(s: variable_shape::State) -> [u32; 10] {
     ]
 }
 
+// The saw's, in the order of its fields; likewise below.
 pub(crate) fn of_variable_saw(s: variable_saw::State) -> [u32; 7] {
     [
         floats::to_bits(s.phase),
@@ -26,6 +27,7 @@ pub(crate) fn of_variable_saw(s: variable_saw::State) -> [u32; 7] {
     ]
 }
 
+// The super square's.
 pub(crate) fn of_super_square(s: super_square::State) -> [u32; 6] {
     [
         floats::to_bits(s.master_phase),
@@ -37,6 +39,7 @@ pub(crate) fn of_super_square(s: super_square::State) -> [u32; 6] {
     ]
 }
 
+// The NES triangle's.
 pub(crate) fn of_nes_triangle(s: nes_triangle::State) -> [u32; 5] {
     [
         floats::to_bits(s.phase),
@@ -47,6 +50,7 @@ pub(crate) fn of_nes_triangle(s: nes_triangle::State) -> [u32; 5] {
     ]
 }
 
+// The string's.
 pub(crate) fn of_string_synth(s: string_synth::State) -> [u32; 8] {
     [
         floats::to_bits(s.phase),

@@ -14,6 +14,7 @@ pub(crate) fn state_words(input: &[u8; 44]) -> [u32; 10] {
     ]
 }
 
+// The phase to set, after the ten words of the state.
 pub(crate) fn phase(input: &[u8; 44]) -> f32 {
     floats::from_bits(testing::word_at(input, 40))
 }

@@ -18,6 +18,7 @@ pub(crate) fn say_forms(words: [u32; 10], phase: f32) {
     io::write_all(STDOUT_FILENO, testing::front(text, end));
 }
 
+// The exported form, over words.
 fn put_exported(text: &mut [u8], words: [u32; 10], phase: f32) -> usize {
     let mut left = words;
     let number = navuloqu::variable_shape::navuloqu_variable_shape_set_master_phase(
@@ -27,6 +28,7 @@ fn put_exported(text: &mut [u8], words: [u32; 10], phase: f32) -> usize {
     put_left(text, 0, number, &left, b' ')
 }
 
+// An answer's number and the state's words.
 fn put_set(text: &mut [u8], at: usize, set: PhaseSet, last: u8) -> usize {
     let answer = set.answer;
     let state = set.state;

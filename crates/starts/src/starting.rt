@@ -2,6 +2,7 @@
 use crate::fields;
 use libc::STDOUT_FILENO;
 
+// Three lines for each oscillator, in the order of the kinds.
 pub(crate) fn say_all() {
     say_variable_shape();
     say_variable_saw();
@@ -10,6 +11,7 @@ pub(crate) fn say_all() {
     say_string_synth();
 }
 
+// What `new` gives, what `init` gives, and the words that the exported `init` leaves; likewise below.
 fn say_variable_shape() {
     let new = fields::of_variable_shape(variable_shape::new());
     let init = fields::of_variable_shape(variable_shape::init());
@@ -19,6 +21,7 @@ fn say_variable_shape() {
     say_state(b"variable shape, exported init: ", &exported);
 }
 
+// The saw's three.
 fn say_variable_saw() {
     let new = fields::of_variable_saw(variable_saw::new());
     let init = fields::of_variable_saw(variable_saw::init());
@@ -28,6 +31,7 @@ fn say_variable_saw() {
     say_state(b"variable saw, exported init: ", &exported);
 }
 
+// The super square's three.
 fn say_super_square() {
     let new = fields::of_super_square(super_square::new());
     let init = fields::of_super_square(super_square::init());
@@ -37,6 +41,7 @@ fn say_super_square() {
     say_state(b"super square, exported init: ", &exported);
 }
 
+// The NES triangle's three.
 fn say_nes_triangle() {
     let new = fields::of_nes_triangle(nes_triangle::new());
     let init = fields::of_nes_triangle(nes_triangle::init());
@@ -46,6 +51,7 @@ fn say_nes_triangle() {
     say_state(b"NES triangle, exported init: ", &exported);
 }
 
+// The string's three.
 fn say_string_synth() {
     let new = fields::of_string_synth(string_synth::new());
     let init = fields::of_string_synth(string_synth::init());
@@ -71,24 +77,28 @@ fn exported_variable_shape() -> [u32; 10] {
     words
 }
 
+// The saw's.
 fn exported_variable_saw() -> [u32; 7] {
     let mut words = [0xffff_ffffu32; 7];
     navuloqu::variable_saw::navuloqu_variable_saw_init(&mut words);
     words
 }
 
+// The super square's.
 fn exported_super_square() -> [u32; 6] {
     let mut words = [0xffff_ffffu32; 6];
     navuloqu::super_square::navuloqu_super_square_init(&mut words);
     words
 }
 
+// The NES triangle's.
 fn exported_nes_triangle() -> [u32; 5] {
     let mut words = [0xffff_ffffu32; 5];
     navuloqu::nes_triangle::navuloqu_nes_triangle_init(&mut words);
     words
 }
 
+// The string's.
 fn exported_string_synth() -> [u32; 8] {
     let mut words = [0xffff_ffffu32; 8];
     navuloqu::string_synth::navuloqu_string_synth_init(&mut words);

@@ -100,18 +100,21 @@ pub fn render(
     drift_or_play(state, interpolators(state, to, n), out)
 }
 
+// 01's ranges of a state.
 fn state_in(s: State) -> bool
     ensures { λ r. ⌜ r ≡ stateIn s ⌝ }
 {
     place_in(s) & ranges::within(0.0, 0.53125, s.frequency) & gains_in(s)
 }
 
+// The phase goes to 8, and the segment is its whole part; it is signed, as in the source, and a negative one is none.
 fn place_in(s: State) -> bool
     ensures { λ r. ⌜ r ≡ (stringPhaseIn (s .phase) && segmentIn (s .segment)) ⌝ }
 {
     ((0.0 <= s.phase) & (s.phase < 8.0)) & ((0 <= s.segment) & (s.segment <= 7))
 }
 
+// The four saw gains.
 fn gains_in(s: State) -> bool
     ensures { λ r. ⌜ r ≡ gainsIn (s .«saw_8_gain») (s .«saw_4_gain») (s .«saw_2_gain») (s .«saw_1_gain») ⌝ }
 {
@@ -121,6 +124,7 @@ fn gains_in(s: State) -> bool
         & ranges::modulation_or_gain_in(s.saw_1_gain)
 }
 
+// 01's ranges of a call's parameters; that a pitch is too high is tested after them.
 fn parameters_in(frequency: f32, registration: &[f32], gain: f32) -> bool
     ensures { λ r. ⌜ r ≡ parametersIn frequency (now (registration .entry)) gain ⌝ }
 {
@@ -129,6 +133,7 @@ fn parameters_in(frequency: f32, registration: &[f32], gain: f32) -> bool
         & ranges::within(0.0, 4.0, gain)
 }
 
+// Every entry, whatever their number: it is tested before.
 fn registration_in(registration: &[f32]) -> bool
     ensures { λ r. ⌜ r ≡ registrationIn (now (registration .entry)) ⌝ }
 {
@@ -141,6 +146,7 @@ fn registration_in(registration: &[f32]) -> bool
     inside
 }
 
+// The state as given, and nothing counted.
 fn refuse(answer: Answer, state: State) -> Rendered
     ensures { λ r. ⌜ r ≡ refused answer state ⌝ }
 {

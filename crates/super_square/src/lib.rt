@@ -79,6 +79,7 @@ pub fn render(state: State, frequency: f32, shape: f32, out: &mut [f32]) -> Rend
     drift_or_play(state, interpolators(state, frequency, shape, n), out)
 }
 
+// 01's ranges of a state. `next_sample` may have any bits.
 fn state_in(s: State) -> bool
     ensures { λ r. ⌜ r ≡ stateIn s ⌝ }
 {
@@ -88,12 +89,14 @@ fn state_in(s: State) -> bool
         & ranges::frequency_in(s.slave_frequency)
 }
 
+// 01's ranges of a call's parameters.
 fn parameters_in(frequency: f32, shape: f32) -> bool
     ensures { λ r. ⌜ r ≡ parametersIn frequency shape ⌝ }
 {
     ranges::parameter_frequency_in(frequency) & ranges::unit_in(shape)
 }
 
+// The state as given, and nothing counted.
 fn refuse(answer: Answer, state: State) -> Rendered
     ensures { λ r. ⌜ r ≡ refused answer state ⌝ }
 {

@@ -5,6 +5,7 @@ ghost use lib.ListN.{take};
 ghost use Rattle.io.specs.Digits.{glyph};
 ghost use Rattle.testing.specs.Text.{line, byteOf, putOf, wordText, wordsOf, Numbered};
 
+// Answers the place after it; without room nothing is written.
 pub fn put_byte(out: &mut [u8], at: usize, byte: u8) -> usize
     ensures { λ r. ⌜ line r (now (out .exit)) ≡ byteOf byte (line at (now (out .entry))) ⌝ }
 {
@@ -16,6 +17,7 @@ pub fn put_byte(out: &mut [u8], at: usize, byte: u8) -> usize
     }
 }
 
+// Likewise a text, as much of it as there is room for.
 pub fn put(out: &mut [u8], at: usize, text: &[u8]) -> usize
     ensures { λ r. ⌜ line r (now (out .exit)) ≡ putOf (now (text .entry)) (line at (now (out .entry))) ⌝ }
 {

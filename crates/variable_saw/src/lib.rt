@@ -97,6 +97,7 @@ fn saw_phase_in(high: bool, phase: f32) -> bool
     }
 }
 
+// 01's ranges of a state. `next_sample` may have any bits.
 fn state_in(s: State) -> bool
     ensures { λ r. ⌜ r ≡ stateIn s ⌝ }
 {
@@ -107,12 +108,14 @@ fn state_in(s: State) -> bool
         & ranges::waveshape_in(s.waveshape)
 }
 
+// 01's ranges of a call's parameters.
 fn parameters_in(frequency: f32, pw: f32, waveshape: f32) -> bool
     ensures { λ r. ⌜ r ≡ parametersIn frequency pw waveshape ⌝ }
 {
     ranges::parameter_frequency_in(frequency) & ranges::unit_in(pw) & ranges::unit_in(waveshape)
 }
 
+// The state as given, and nothing counted.
 fn refuse(answer: Answer, state: State) -> Rendered
     ensures { λ r. ⌜ r ≡ refused answer state ⌝ }
 {

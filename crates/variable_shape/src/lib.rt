@@ -120,6 +120,7 @@ pub fn render(
     drift_or_play(state, p, sync, phase_output, out)
 }
 
+// 01's ranges of a state. `next_sample` may have any bits.
 fn state_in(s: State) -> bool
     ensures { λ r. ⌜ r ≡ stateIn s ⌝ }
 {
@@ -133,6 +134,7 @@ fn state_in(s: State) -> bool
         & ranges::modulation_or_gain_in(s.phase_modulation)
 }
 
+// 01's ranges of a call's parameters: all of them, also where sync or phase output is off.
 fn parameters_in(
     master_frequency: f32,
     frequency: f32,
@@ -149,6 +151,7 @@ fn parameters_in(
         & ranges::within(-8.0, 8.0, phase_modulation)
 }
 
+// The state as given, and nothing counted.
 fn refuse(answer: Answer, state: State) -> Rendered
     ensures { λ r. ⌜ r ≡ refused answer state ⌝ }
 {

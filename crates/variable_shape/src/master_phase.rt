@@ -10,6 +10,7 @@ pub struct PhaseSet {
     pub state: State,
 }
 
+// The state is not tested: the phase alone is looked at, and the rest handed on.
 pub fn set_master_phase(state: State, phase: f32) -> PhaseSet
     ensures { λ r. ⌜ asSetting r ≡ masterPhaseSet state phase ⌝ }
 {
