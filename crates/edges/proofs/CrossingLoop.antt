@@ -9,12 +9,13 @@ use native.Mathlib.Omega.{arith}
 use borrow.Author.Tests.{not-true, not-false}
 use lib.Ieee.{Float, lt}
 use Rattle.floats.specs.F32.{one32}
-use Rattle.floats.proofs.Ticks.{tick, cycle, one-at, wrap-1}
+use Rattle.floats.proofs.Ticks.{tick, cycle, one-at, topSum-at, wrap-1}
 use Rattle.floats.proofs.At.{At}
-use Rattle.floats.proofs.Ranges.{Under, UpTo, passed-lt, failed-lt, passes-lt}
+use Rattle.floats.proofs.Ranges.{Under, UpTo, under-of, upto-of, passed-lt, failed-lt, passes-lt}
 use Rattle.edges.specs.declared.Edge.{Edge}
 use Rattle.block.specs.Counting.{oneIf}
-use Rattle.edges.specs.CrossingLoop.{turns, crossingLoop, Crosses, Crossable}
+use Rattle.edges.specs.CrossingLoop.{turns, crossingLoop, Crosses, Starts}
+use Rattle.edges.specs.Private.{Crossable}
 
 -- what is counted, from a slave that was high or low
 pub record Counted (high : Bool) (r : Edge) : Type 0 where
@@ -201,7 +202,7 @@ module _ {x : Crosses} {e₀ e : Edge} (g : Going x e₀ e) where
             let b : again e ≡ 1 = ap (λ (t : Bool). cond t 0 1) (same-test w l) in
             omega (arith, a, b)
 
--- however many turns may follow, e comes to r, and there the loop has more by its own break
+-- however many turns may follow, e comes to r, and there the loop ends by its own break
 record Ends (x : Crosses) (high : Bool) (e : Edge) : Type 0 where
   r : Edge
   same : (k : ℕ) → turnsOf x (suc k) e ≡ r
@@ -246,6 +247,14 @@ loop-ends {x} {e} h = ⊎-elim in-one in-two (one-turn (going-start h))
         (λ (l : Ends x (e .high) (o .f)). record { r = l .r; same = λ j. o .same (suc j) ∙ l .same j; crossed = l .crossed })
         (λ (p : GoesOn x e (o .f)). absurd (true≢false (sym (o .is) ∙ p .was)))
         (one-turn (o .going))
+
+-- in a reader's words: more turns than two change nothing
+pub two-turns : (x : Crosses) (e : Edge) → Starts (x .width) e → (k : ℕ) → turns (suc (suc k)) (x .width) (x .rise) (x .fall) e ≡ crossingLoop (x .width) (x .rise) (x .fall) e
+two-turns x e s k =
+    let h : Crossable (x .width) e =
+    record { narrow = under-of (s .width-fits) (s .width-from) (s .width-below) one-at; phase = upto-of (s .phase-fits) (s .phase-from) (s .phase-most) topSum-at; none = s .none } in
+    let l = loop-ends {x = x} h in
+    l .same k ∙ sym (l .same 0)
 
 pub crossed-of : (x : Crosses) {e : Edge} → Crossable (x .width) e → Crossed (e .high) (looped x e)
 crossed-of x {e} h = let l = loop-ends {x = x} h in subst (Crossed (e .high)) (sym (l .same 0)) (l .crossed)

@@ -6,7 +6,8 @@ use lib.Ieee.{Float}
 use Rattle.edges.specs.declared.AtReset.{AtReset}
 use Rattle.edges.specs.declared.Edge.{Edge}
 use Rattle.edges.specs.Sync.{atResetOf, cutEdge, resetOf}
-use Rattle.edges.specs.CrossingLoop.{Crosses, Crossable}
+use Rattle.edges.specs.CrossingLoop.{Crosses}
+use Rattle.edges.specs.Private.{Crossable}
 use Rattle.edges.proofs.CrossingLoop.{Counted, looped, crossed-of}
 
 -- e is the start b with a cut

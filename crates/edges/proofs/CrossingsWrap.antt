@@ -13,7 +13,8 @@ use Rattle.floats.proofs.Ranges.{passed-lt, failed-lt}
 use Rattle.edges.specs.declared.Edge.{Edge}
 use Rattle.block.specs.Counting.{oneIf}
 use Rattle.edges.specs.Sync.{wrapOnce}
-use Rattle.edges.specs.CrossingLoop.{Crosses, Crossable}
+use Rattle.edges.specs.CrossingLoop.{Crosses}
+use Rattle.edges.specs.Private.{Crossable}
 use Rattle.edges.proofs.CrossingLoop.{looped, turnsOf, Risen, going-start, stays-high, rises-low, stop-low, stop-high, turn-on, same-phase, same-falls, below-again}
 
 -- from e to r the phase wraps at most once, and each wrap is a fall

@@ -16,7 +16,7 @@ noCrossings = record { rises = 0; falls = 0 }
 abbrev pub startOf : Float → Bool → Float → Edge
 startOf phase high thisSample = record { phase = phase; high = high; «this_sample» = thisSample; «next_sample» = zero32; crossings = noCrossings }
 
--- `high` has turned true once more. 32 bits hold the number, and a sample rises twice at most (`leaves` in proofs/CrossingLoop): it never starts again at 0.
+-- `high` has turned true once more. 32 bits hold the number, and a sample rises twice at most (`crossed-of` in proofs/CrossingLoop): it never starts again at 0.
 abbrev pub rose : Crossings → Crossings
 rose c = record { rises = (c .rises + 1) % 2 ^ 32; falls = c .falls }
 

@@ -2,11 +2,10 @@
 -- (lines 144 to 175) share: a low slave rises where its phase has come to the width, a high one falls where it has come to 1. Assumes nothing.
 use mathlib.Core.Path.{_≡_}
 use mathlib.Core.Bool.{true, false, not, _&&_, cond}
-use Prim.Native.Nat.{ℕ, zero, suc, _*_}
-use lib.Ieee.{Float, lt}
-use Rattle.floats.specs.F32.{_⊖_, one32}
-use Rattle.floats.proofs.Ticks.{tick, cycle}
-use Rattle.floats.proofs.Ranges.{Under, UpTo}
+use Prim.Native.Nat.{ℕ, zero, suc}
+use lib.Dec.{T}
+use lib.Ieee.{Float, binary32, fits, lt, le}
+use Rattle.floats.specs.F32.{_⊖_, zero32, one32, topSum}
 use Rattle.edges.specs.declared.Edge.{Edge}
 use Rattle.edges.specs.Counted.{noCrossings, rose, fell}
 
@@ -18,7 +17,7 @@ turns (suc k) width rise fall e =
     (let r = cond (e .high) e (rise e) in
     cond (lt (r .phase) one32) r (turns k width rise fall (fall r)))
 
--- Two turns are all it makes: `leaves` in `proofs/CrossingLoop` shows that it has then left by its own break, so that more turns change nothing.
+-- Two turns are all it makes: `two-turns` in proofs/CrossingLoop shows that more change nothing, since it has then left by its own break.
 abbrev pub crossingLoop : Float → (Edge → Edge) → (Edge → Edge) → Edge → Edge
 crossingLoop width rise fall e = turns 2 width rise fall e
 
@@ -34,7 +33,7 @@ pub record Falls (e r : Edge) : Type 0 where
   pub high : r .high ≡ false
   pub counts : r .crossings ≡ fell (e .crossings)
 
--- what `leaves` asks of an oscillator: the width that it rises at, a rise, and a fall
+-- what `two-turns` asks of an oscillator: the width that it rises at, a rise, and a fall
 pub record Crosses : Type 0 where
   pub width : Float
   pub rise : Edge → Edge
@@ -42,9 +41,13 @@ pub record Crosses : Type 0 where
   pub rises : (e : Edge) → Rises e (rise e)
   pub falls : (e : Edge) → Falls e (fall e)
 
--- What it asks of the width and of the edge that the loop starts from. The width lies from 0 to below 1, the phase is at least 0 and at most 81/64 (a phase
--- below 1 and a step of at most 17/64; a tick is 2^-24), and nothing is counted yet.
-pub record Crossable (width : Float) (e : Edge) : Type 0 where
-  pub narrow : Under width cycle
-  pub phase : UpTo (e .phase) (21233664 * tick)
+-- what the loop starts from: the width at least 0 and below 1, the phase at least 0 and at most 81/64 (a phase below 1 and a step of at most 17/64), both
+-- binary32 values, and nothing counted yet
+pub record Starts (width : Float) (e : Edge) : Type 0 where
+  pub width-fits : T (fits binary32 width)
+  pub width-from : le zero32 width ≡ true
+  pub width-below : lt width one32 ≡ true
+  pub phase-fits : T (fits binary32 (e .phase))
+  pub phase-from : le zero32 (e .phase) ≡ true
+  pub phase-most : le (e .phase) topSum ≡ true
   pub none : e .crossings ≡ noCrossings

@@ -3,3 +3,4 @@ pub mod Counted
 pub mod CrossingLoop
 pub mod Sync
 pub mod Triangle
+pub mod Private

@@ -4,7 +4,8 @@ use mathlib.Core.List.{List}
 use Prim.Native.Nat.{ℕ}
 use contract.Lifetimes.{Lfts}
 use denote.Ref.{RefT, now}
-use Rattle.floats.proofs.Contracts.{Determines, coincide}
+use Rattle.floats.specs.Contracts.{Determines}
+use Rattle.floats.proofs.Contracts.{coincide}
 use Rattle.jobs.proofs.«record» as part
 use Rattle.jobs.proofs.read
 

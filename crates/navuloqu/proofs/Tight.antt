@@ -1,6 +1,7 @@
 -- The contract of each exported function, as the kit reads it, determines all: words, result and samples. Assumes nothing.
 use mathlib.Core.Path.{refl, ap}
-use Rattle.floats.proofs.Contracts.{Determines, coincide}
+use Rattle.floats.specs.Contracts.{Determines}
+use Rattle.floats.proofs.Contracts.{coincide}
 use Rattle.words.proofs.Faces.{same-face}
 use Rattle.variable_shape_face.specs.Words.{SetFace}
 use Rattle.navuloqu.proofs.variable_shape.navuloqu_variable_shape_init as variable_shape_init

@@ -1,6 +1,7 @@
 -- The contracts of `new`, `init` and `render`, as the kit reads them, determine all: the state; answer, state, counts and buffer. Assumes nothing.
 use mathlib.Core.Path.{refl}
-use Rattle.floats.proofs.Contracts.{Determines, coincide}
+use Rattle.floats.specs.Contracts.{Determines}
+use Rattle.floats.proofs.Contracts.{coincide}
 use Rattle.block.proofs.Contracts.{same-outcome}
 use Rattle.nes_triangle.proofs.new
 use Rattle.nes_triangle.proofs.init

@@ -1,7 +1,8 @@
 -- The contracts of `render` and `count`, as the kit reads them, determine all: number, length and text. Assumes nothing.
 use mathlib.Core.Path.{_≡_, refl, ap}
 use native.Mathlib.Omega.{arith}
-use Rattle.floats.proofs.Contracts.{Determines, coincide}
+use Rattle.floats.specs.Contracts.{Determines}
+use Rattle.floats.proofs.Contracts.{coincide}
 use Rattle.render.specs.declared.Written.{Written}
 use Rattle.render.specs.declared.Written.the-variants.{Text, BadInput, NoRoom}
 use Rattle.render.specs.Lists.{Handed, numberOf, countOf}

@@ -6,7 +6,8 @@ use Rattle.floats.specs.F32.{half32}
 use Rattle.floats.proofs.Ticks.{tick-pos, half-at}
 use Rattle.floats.proofs.PhaseSteps.{wraps-at-1, phase-sum}
 use Rattle.edges.specs.declared.Edge.{Edge}
-use Rattle.edges.specs.CrossingLoop.{Rises, Falls, Crosses, Crossable}
+use Rattle.edges.specs.CrossingLoop.{Rises, Falls, Crosses}
+use Rattle.edges.specs.Private.{Crossable}
 use Rattle.super_square.specs.declared.State.{State}
 use Rattle.super_square.specs.Sample.{riseOf, fallOf, edgeOf}
 use Rattle.super_square.specs.Private.{Ready}

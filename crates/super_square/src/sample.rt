@@ -1,7 +1,7 @@
 // One sample of the super square, in the source's order: super_square_oscillator.rs, lines 60 to 131.
 ghost use mathlib.Core.Path.{_≡_};
 ghost use Rattle.floats.specs.F32.{half32};
-ghost use Rattle.edges.specs.CrossingLoop.{Crossable};
+ghost use Rattle.edges.specs.Private.{Crossable};
 ghost use Rattle.super_square.specs.Sample.{level as levelOf, riseOf, fallOf, crossed, edgeOf, resetEdge, after as stateAfter, finish as finished, resetSample, plainSample, sampleOf};
 ghost use Rattle.super_square.specs.Private.{Ready};
 use crate::State;

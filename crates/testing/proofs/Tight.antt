@@ -6,7 +6,8 @@ use native.Mathlib.Nat.{pow-le-pow-right}
 use native.Mathlib.Omega.{arith}
 use contract.Lifetimes.{Lfts}
 use denote.Ref.{RefT, now}
-use Rattle.floats.proofs.Contracts.{Determines, coincide}
+use Rattle.floats.specs.Contracts.{Determines}
+use Rattle.floats.proofs.Contracts.{coincide}
 use Rattle.io.specs.Digits.{digits, Fewest}
 use Rattle.testing.specs.Text.{Line, byteOf, putOf, Numbered}
 use Rattle.testing.proofs.record.word_at

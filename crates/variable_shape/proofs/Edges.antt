@@ -6,7 +6,8 @@ use lib.Ieee.{Float, le}
 use Rattle.floats.specs.F32.{_⊖_, one32}
 use Rattle.floats.proofs.PhaseSteps.{wraps-at-1, phase-sum}
 use Rattle.edges.specs.declared.Edge.{Edge}
-use Rattle.edges.specs.CrossingLoop.{Rises, Falls, Crosses, Crossable}
+use Rattle.edges.specs.CrossingLoop.{Rises, Falls, Crosses}
+use Rattle.edges.specs.Private.{Crossable}
 use Rattle.variable_shape.specs.declared.State.{State}
 use Rattle.variable_shape.specs.declared.steps.Steps.{Steps}
 use Rattle.variable_shape.specs.declared.waveform.Waveform.{Waveform}

@@ -22,7 +22,7 @@ use Rattle.ranges.proofs.AllOf.{of-each}
 use Rattle.rooms.proofs.RangeLaws.{under-phase, frequency-step, step-frequency, width-step, step-width}
 use Rattle.block.proofs.InsideAt.{inside-at}
 use Rattle.block.proofs.Accounts.{OneSample}
-use Rattle.edges.specs.CrossingLoop.{Crossable}
+use Rattle.edges.specs.Private.{Crossable}
 use Rattle.edges.proofs.CrossingLoop.{Counted, crossed-of}
 use Rattle.edges.proofs.CrossingsWrap.{loop-wraps}
 use Rattle.edges.proofs.CrossingsReset.{reset-counted}

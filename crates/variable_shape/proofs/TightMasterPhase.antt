@@ -7,7 +7,8 @@ use denote.Triple.Clauses.{AtExit}
 use borrow.Fn.Claims.{AllOf}
 use borrow.Fn.Read.{Read, reads, all-models, no-know}
 use borrow.Fn.World.{World, Pr}
-use Rattle.floats.proofs.Contracts.{Determines, coincide}
+use Rattle.floats.specs.Contracts.{Determines}
+use Rattle.floats.proofs.Contracts.{coincide}
 use Rattle.block.proofs.Contracts.{same-answer}
 use Rattle.variable_shape.specs.declared.master_phase.PhaseSet.{PhaseSet}
 use Rattle.variable_shape.specs.MasterPhase.{Setting, asSetting}

@@ -1,6 +1,6 @@
 // One sample of the variable shape, in the source's order: variable_shape_oscillator.rs, lines 95 to 210.
 ghost use mathlib.Core.Path.{_≡_};
-ghost use Rattle.edges.specs.CrossingLoop.{Crossable};
+ghost use Rattle.edges.specs.Private.{Crossable};
 ghost use Rattle.variable_shape.specs.Sample.{riseOf, fallOf, crossed, edgeOf, resetEdge, masterStep, after as stateAfter, finish as finished, freeCycles, resetSample, plainSample, sampleOf};
 ghost use Rattle.variable_shape.specs.Private.{Ready};
 use crate::State;

@@ -1,6 +1,7 @@
 -- Every public function's contract, as the kit reads it, determines its outcome. Assumes nothing.
 use mathlib.Core.Path.{refl}
-use Rattle.floats.proofs.Contracts.{Determines, coincide}
+use Rattle.floats.specs.Contracts.{Determines}
+use Rattle.floats.proofs.Contracts.{coincide}
 use Rattle.whole_part.proofs.whole_part
 
 pub whole-part-tight : Determines whole_part.ended whole_part.Reads.Learnt

@@ -1,7 +1,7 @@
 -- `super_square::sample::plain_sample` meets its contract. Assumes nothing.
 use mathlib.Core.Path.{refl, sym, subst}
 use Rattle.floats.specs.F32.{half32}
-use Rattle.edges.specs.CrossingLoop.{Crossable}
+use Rattle.edges.specs.Private.{Crossable}
 use Rattle.super_square.specs.Sample.{plainSample}
 use borrow.Author.Needs.{needs}
 use Rattle.super_square.proofs.sample.plain_sample.Statement.{statement}
