@@ -28,8 +28,8 @@ pub struct Reached {
 
 // A sample, and what it leaves behind: the state for the next one, and what 01 counts.
 pub struct Sampled {
-    pub state: State,
     pub sample: f32,
+    pub state: State,
     pub counts: Counts,
 }
 

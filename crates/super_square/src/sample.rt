@@ -9,8 +9,8 @@ use block::Counts;
 use edges::Edge;
 
 pub struct Sampled {
-    pub state: State,
     pub sample: f32,
+    pub state: State,
     pub counts: Counts,
 }
 

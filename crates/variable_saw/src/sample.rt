@@ -9,8 +9,8 @@ use edges::triangle;
 const VARIABLE_SAW_NOTCH_DEPTH: f32 = 0.2;
 
 pub struct Sampled {
-    pub state: State,
     pub sample: f32,
+    pub state: State,
     pub counts: Counts,
 }
 

@@ -13,8 +13,8 @@ use edges::Edge;
 use edges::triangle;
 
 pub struct Sampled {
-    pub state: State,
     pub sample: f32,
+    pub state: State,
     pub counts: Counts,
 }
 
