@@ -8,7 +8,7 @@ use borrow.Author.Tests.{ltb-true, leb-true, leb-false, lt-ltb, le-ltb, le-leb, 
 use mathlib.Core.Bool.{Bool, true, false, true≢false}
 use lib.IntN.{ℤ}
 use lib.Dec.{ltb, leb, eqb}
-use lib.Ieee.{Float, nan, inf, fin, up, down, lt, le, eq, ne, isNan}
+use lib.Ieee.{Float, nan, inf, fin, up, down, lt, le, eq, isNan}
 use lib.Ieee.Positive.{num, den, den-pos}
 use Rattle.floats.proofs.Values.{Opened, lt-value, eq-value, le-of, same-lt, same-eq}
 
@@ -103,13 +103,6 @@ numbers (inf s) (fin t n d) h = (refl, refl)
 numbers (fin s m e) nan h = absurd (true≢false (sym h))
 numbers (fin s m e) (inf t) h = (refl, refl)
 numbers (fin s m e) (fin t n d) h = (refl, refl)
-
--- only a NaN differs from itself
-pub not-nan : (x : Float) → ne x x ≡ false → isNan x ≡ false
-unfolding ne eq isNan
-not-nan nan h = absurd (true≢false h)
-not-nan (inf s) h = refl
-not-nan (fin s m e) h = refl
 
 line : (x y z : Float) → isNan x ≡ false → isNan y ≡ false → isNan z ≡ false → Line x y z
 line x y z X Y Z =
