@@ -9,7 +9,7 @@ use lib.Dec.{T, leb, leb→le, nleb→lt, lit≤}
 use lib.Pow.{pow-add, pow-pos, pow-mono, shl-lt}
 use lib.Ieee.{Float, fits, ofBits}
 use lib.Ieee.Digits.{back}
-use Rattle.floats.specs.F32.{_⊕_, _⊖_, half32, one32, eight32, topStep, topStringStep, topSum}
+use Rattle.floats.specs.F32.{_⊕_, _⊖_, half32, one32, two32, eight32, sixteen32, maxFrequency, topStep, topStringStep, topSum}
 use Rattle.floats.proofs.Rounding.{Within, rnd, rnd-exact, rnd-up, rnd-dn}
 use Rattle.floats.proofs.At.{At, Even, huge, at-even, at-rnd, at-huge, add-at, sub-at}
 pub use Rattle.floats.proofs.At.{zero-at}
@@ -39,9 +39,21 @@ pub one-at : At one32 cycle
 unfolding tick fits ofBits
 one-at = record { fit = tt; reads = refl }
 
+pub two-at : At two32 (2 * cycle)
+unfolding tick fits ofBits
+two-at = record { fit = tt; reads = refl }
+
 pub eight-at : At eight32 (8 * cycle)
 unfolding tick fits ofBits
 eight-at = record { fit = tt; reads = refl }
+
+pub sixteen-at : At sixteen32 (16 * cycle)
+unfolding tick fits ofBits
+sixteen-at = record { fit = tt; reads = refl }
+
+pub maxFrequency-at : At maxFrequency (4194304 * tick)
+unfolding tick fits ofBits
+maxFrequency-at = record { fit = tt; reads = refl }
 
 pub topStep-at : At topStep (4456448 * tick)
 unfolding tick fits ofBits

@@ -1,3 +1,4 @@
--- Tests that all pass, and contracts that determine.
+-- Tests that all pass, where targets lie, and contracts that determine.
 pub mod AllOf
+pub mod TargetRanges
 pub mod Tight
