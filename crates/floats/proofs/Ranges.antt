@@ -8,12 +8,13 @@ use borrow.Author.Tests.{ltb-true, ltb-false, leb-true, leb-false, lt-ltb, le-le
 use mathlib.Core.Bool.{true, false, true≢false}
 use lib.Dec.{T, lit<}
 use lib.Pow.{pow-pos}
-use lib.Ieee.{Float, nan, inf, fin, binary32, lt, le, fits, ofBits}
+use lib.Ieee.{Float, nan, inf, fin, binary32, lt, le, fits}
 use lib.Ieee.Scale.{finite}
 use Rattle.floats.specs.F32.{_⊕_, _⊖_, _⊗_, _⊘_, zero32, one32}
 use Rattle.floats.proofs.Rounding.{rnd, rnd-mono, rnd-exact}
 use Rattle.floats.proofs.Order.{lt→le}
-use Rattle.floats.proofs.At.{At, sizeOf, at-of, at-rnd, at-huge, mul-at, div-at, lt-at, le-at}
+use Rattle.floats.proofs.Signed.{Is}
+use Rattle.floats.proofs.At.{At, is-at, sizeOf, at-of, at-rnd, at-huge, mul-at, div-at, lt-at, le-at}
 use Rattle.floats.proofs.Ticks.{tick, cycle, zero-at, one-at, wrap-1, below-one}
 use Rattle.floats.proofs.PhaseSteps.{wraps-at-1, phase-sum}
 
@@ -57,18 +58,20 @@ pub at-least-0 : {x : Float} {n : ℕ} → At x n → le zero32 x ≡ true
 at-least-0 p = passes-le zero-at p zero-le
 
 -- ---- from the tests to the range
-finite-le : (x y : Float) {b : ℕ} → At y b → le zero32 x ≡ true → le x y ≡ true → T (finite x)
-unfolding le ofBits
-finite-le nan y q h k = absurd (true≢false (sym h))
-finite-le (inf true) y q h k = absurd (true≢false (sym h))
-finite-le (inf false) nan q h k = q .reads
-finite-le (inf false) (inf t) q h k = q .reads
-finite-le (inf false) (fin t n d) q h k = absurd (true≢false (sym k))
-finite-le (fin s m e) y q h k = tt
+pub finite-within : (low x high : Float) {a b c d : ℕ} → Is low a b → Is high c d → le low x ≡ true → le x high ≡ true → T (finite x)
+unfolding le
+finite-within low nan high A C h k = absurd (true≢false (sym k))
+finite-within nan (inf true) high A C h k = absurd (A .value)
+finite-within (inf s) (inf true) high A C h k = absurd (A .value)
+finite-within (fin s m e) (inf true) high A C h k = absurd (true≢false (sym h))
+finite-within low (inf false) nan A C h k = absurd (C .value)
+finite-within low (inf false) (inf s) A C h k = absurd (C .value)
+finite-within low (inf false) (fin s m e) A C h k = absurd (true≢false (sym k))
+finite-within low (fin s m e) high A C h k = tt
 
 module _ {x y : Float} {b : ℕ} (t : T (fits binary32 x)) where
   pub at-le : le zero32 x ≡ true → le x y ≡ true → At y b → At x (sizeOf x)
-  at-le h k q = at-of x t (finite-le x y q h k) h
+  at-le h k q = at-of x t (finite-within zero32 x y (is-at zero-at) (is-at q) h k) h
 
   pub under-of : le zero32 x ≡ true → lt x y ≡ true → At y b → Under x b
   under-of h k q = let p = at-le h (lt→le x y k) q in record { n = sizeOf x; at = p; under = passed-lt p q k }

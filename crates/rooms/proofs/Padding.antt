@@ -1,11 +1,13 @@
 -- There are five places of interpolators; an oscillator with fewer has places that it does not use, and they change nothing. Assumes nothing.
-use mathlib.Core.Path.{_≡_, refl, ap}
+use mathlib.Core.Path.{_≡_, refl, sym, ap, _∙_}
 use mathlib.Core.Bool.{Bool, true, _&&_}
 use mathlib.Core.List.{List, [], _∷_, _++_}
-use Prim.Native.Nat.{ℕ, zero, suc, _≤_, _<_}
+use mathlib.Core.Logic.{_⊎_, inl, inr}
+use Prim.Native.Nat.{ℕ, zero, suc, _+_, _≤_, _<_, _-_}
+use native.Mathlib.Nat.{eq-or-lt-of-le}
 use native.Mathlib.Omega.{arith}
-use lib.ListN.{length, getD, take}
-use lib.Seq.{length-take-le, take-at}
+use lib.ListN.{length, getD, take, drop, take-append-drop, List·getD-eq-default}
+use lib.Seq.{length-take-le, take-at, drop-cons, getD-drop}
 use lib.Ieee.{Float}
 use Rattle.floats.specs.F32.{zero32}
 use Rattle.parameter_interpolator.specs.declared.ParameterInterpolator.{ParameterInterpolator}
@@ -19,6 +21,29 @@ use Rattle.rooms.proofs.Places.{place}
 abbrev pub unused : ℕ → List Room
 unused zero = []
 unused (suc k) = Unused ∷ unused k
+
+-- from the k-th place on no room tests anything
+pub record UnusedFrom (rs : List Room) (k : ℕ) : Type 0 where
+  pub most : k ≤ length rs
+  pub rest : (j : ℕ) → k ≤ j → getD rs j Unused ≡ Unused
+
+pub unused-end : (rs : List Room) {k : ℕ} → length rs ≡ k → UnusedFrom rs k
+unused-end rs h = record { most = omega arith; rest = λ j l. List·getD-eq-default rs Unused (omega arith) }
+
+-- and none in the place before it
+pub unused-before : {rs : List Room} {k : ℕ} (d : Room) → UnusedFrom rs k → 0 < k → getD rs (k - 1) d ≡ Unused → UnusedFrom rs (k - 1)
+unused-before {rs} {k} d u s e = record { most = omega (arith, u .most); rest = λ j l. go j (eq-or-lt-of-le l) }
+  where
+    here : k - 1 < length rs
+    here = omega (arith, u .most)
+
+    go : (j : ℕ) → (k - 1 ≡ j) ⊎ (k - 1 < j) → getD rs j Unused ≡ Unused
+    go j (inl i) = rw (← i) (cc (drop-cons rs (k - 1) d here, drop-cons rs (k - 1) Unused here))
+    go j (inr i) = u .rest j (omega arith)
+
+unused-all : (rs : List Room) → ((j : ℕ) → getD rs j Unused ≡ Unused) → rs ≡ unused (length rs)
+unused-all [] f = refl
+unused-all (r ∷ rs) f = rw (f 0, ← unused-all rs (λ j. f (suc j)))
 
 -- the places that have a room
 unfoldable pub used : List Room → List ParameterInterpolator → List ParameterInterpolator
@@ -58,6 +83,15 @@ pub walk-used : (n : ℕ) (rs : List Room) (k : ℕ) (ps : List ParameterInterpo
 unfolding firstOutside stepsOf
 walk-used zero rs k ps = refl
 walk-used (suc n) rs k ps = rw (moved-used rs ps, allIn-used rs k (moved ps), walk-used n rs k (moved ps))
+
+-- so it is enough to look at the places before those that are unused
+pub walk-front : (n : ℕ) {m : ℕ} {rs : List Room} (ps : List ParameterInterpolator) → UnusedFrom rs m → firstOutside rs (stepsOf n ps) ≡ firstOutside (take m rs) (stepsOf n (take m ps))
+unfolding used
+walk-front n {m} {rs} ps u =
+    let rest : drop m rs ≡ unused (length (drop m rs)) = unused-all (drop m rs) (λ j. getD-drop m rs j Unused ∙ u .rest (m + j) (omega arith)) in
+    ap (λ (qs : List Room). firstOutside qs (stepsOf n ps)) (sym (take-append-drop m rs) ∙ ap (λ (qs : List Room). take m rs ++ qs) rest)
+    ∙ walk-used n (take m rs) (length (drop m rs)) ps
+    ∙ ap (λ (j : ℕ). firstOutside (take m rs) (stepsOf n (take j ps))) (length-take-le m rs (u .most))
 
 pub used-length : (rs : List Room) (ps : List ParameterInterpolator) → length rs ≤ length ps → length (used rs ps) ≡ length rs
 unfolding used

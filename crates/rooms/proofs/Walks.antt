@@ -7,7 +7,7 @@ use Prim.Native.Nat.{ℕ, suc, _+_, _≤_, _<_, _-_}
 use native.Mathlib.Numerals.{add-one}
 use native.Mathlib.Omega.{arith}
 use lib.ListN.{length, getD, take, drop, set, length-set, drop-of-length-le}
-use lib.Seq.{drop-cons, take-suc-set, drop-set-lt, take-all, append-snoc, length-take-le}
+use lib.Seq.{drop-cons, take-suc-set, drop-set-lt, take-set-lt, take-all, append-snoc, length-take-le, getD-take}
 use borrow.Author.Tests.{not-true, not-false}
 use Rattle.parameter_interpolator.specs.declared.ParameterInterpolator.{ParameterInterpolator}
 use Rattle.parameter_interpolator.specs.Interpolator.{nextInterpolator}
@@ -30,41 +30,59 @@ allIn-split [] r before p after h = absurd (omega arith)
 allIn-split (s ∷ rs) r [] p after h = refl
 allIn-split (s ∷ rs) r (q ∷ before) p after h = rw (allIn-split rs r before p after (omega arith)) (sym (and-assoc (inRoom s (q .value)) _ _))
 
--- k of the interpolators have moved, each into its room
-pub record Moving (rs : List Room) (ps₀ : List ParameterInterpolator) (k : ℕ) (ps : List ParameterInterpolator) : Type 0 where
-  pub long : length ps ≡ length ps₀
-  pub same : moved ps₀ ≡ take k ps ++ moved (drop k ps)
-  pub good : allIn rs (values (take k ps)) ≡ true
+-- of the first m interpolators, which are those that have a room, k have moved, each into its room
+pub record Moving (m : ℕ) (rooms : List Room) (ps₀ : List ParameterInterpolator) (k : ℕ) (ps : List ParameterInterpolator) : Type 0 where
+  pub known : m ≤ length rooms
+  pub enough : m ≤ length ps
+  pub most : k ≤ m
+  pub same : moved (take m ps₀) ≡ take k (take m ps) ++ moved (drop k (take m ps))
+  pub good : allIn (take m rooms) (values (take k (take m ps))) ≡ true
 
-module _ (rs : List Room) (ps₀ : List ParameterInterpolator) where
-  pub moving-start : Moving rs ps₀ 0 ps₀
+module _ {m : ℕ} {rooms : List Room} {ps₀ : List ParameterInterpolator} where
+  pub moving-start : m ≤ length rooms → m ≤ length ps₀ → Moving m rooms ps₀ 0 ps₀
   unfolding values
-  moving-start = record { long = refl; same = refl; good = none-outside rs }
+  moving-start h l = record { known = h; enough = l; most = omega arith; same = refl; good = none-outside (take m rooms) }
 
-  -- p is the k-th interpolator one step on, and `inside` what the test says of it
-  module _ (r : Room) (d p : ParameterInterpolator) (inside : Bool) (k : ℕ) (ps : List ParameterInterpolator) (m : Moving rs ps₀ k ps)
-      (here : k < length ps) (known : k < length rs) (next : p ≡ nextInterpolator (getD ps k d)) (test : inside ≡ inRoom (getD rs k r) (p .value)) where
-    front : length (take k ps) ≡ k
-    front = length-take-le k ps (omega arith)
+  module _ {k : ℕ} {ps : List ParameterInterpolator} (v : Moving m rooms ps₀ k ps) where
+    long : length (take m ps) ≡ m
+    long = length-take-le m ps (v .enough)
 
-    split : moved ps₀ ≡ take k ps ++ p ∷ moved (drop (suc k) ps)
+    -- p is the k-th interpolator one step on, and `inside` what the test says of it
+    module _ (r : Room) (d p : ParameterInterpolator) (inside : Bool) (here : k < m) (next : p ≡ nextInterpolator (getD ps k d)) (test : inside ≡ inRoom (getD rooms k r) (p .value)) where
+      inner : k < length (take m ps)
+      inner = omega (arith, long)
+
+      front : length (take k (take m ps)) ≡ k
+      front = length-take-le k (take m ps) (omega (arith, inner))
+
+      room : length (take k (take m ps)) < length (take m rooms)
+      room = omega (arith, front, length-take-le m rooms (v .known))
+
+      tested : inRoom (getD (take m rooms) (length (take k (take m ps))) r) (p .value) ≡ inside
+      tested = rw (front, getD-take m rooms k r here) (sym test)
+
+      split : moved (take m ps₀) ≡ take k (take m ps) ++ p ∷ moved (drop (suc k) (take m ps))
+      unfolding moved
+      split = v .same ∙ rw (drop-cons (take m ps) k d inner, getD-take m ps k d here, next)
+
+      pub moving-out : not inside ≡ true → allIn (take m rooms) (values (moved (take m ps₀))) ≡ false
+      moving-out h = rw (split, allIn-split (take m rooms) r (take k (take m ps)) p _ room, tested, v .good, not-true inside h)
+
+      pub moving-more : not inside ≡ false → Moving m rooms ps₀ (k + 1) (set ps k p)
+      unfolding values
+      moving-more h = record {
+        known = v .known;
+        enough = simp length-set (v .enough);
+        most = omega arith;
+        same = split ∙ rw (take-set-lt m ps k p here, add-one, take-suc-set (take m ps) k p inner, drop-set-lt (suc k) (take m ps) k _ (omega arith), append-snoc);
+        good = rw (take-set-lt m ps k p here, add-one, take-suc-set (take m ps) k p inner, allIn-split (take m rooms) r (take k (take m ps)) p [] room, tested, v .good, not-false inside h, none-outside);
+      }
+
+    pub moving-end : m ≤ k → (moved (take m ps₀) ≡ take m ps) × (allIn (take m rooms) (values (take m ps)) ≡ true)
     unfolding moved
-    split = m .same ∙ rw (drop-cons ps k d, next)
-
-    pub moving-out : not inside ≡ true → allIn rs (values (moved ps₀)) ≡ false
-    moving-out h = rw (split, allIn-split rs r (take k ps) p _ (omega (arith, front)), front, m .good, ← test, not-true inside h)
-
-    pub moving-more : not inside ≡ false → Moving rs ps₀ (k + 1) (set ps k p)
-    unfolding values
-    moving-more h = record {
-      long = simp length-set (m .long);
-      same = split ∙ rw (add-one, take-suc-set, drop-set-lt (suc k) ps k _ (omega arith), append-snoc);
-      good = rw (add-one, take-suc-set, allIn-split rs r (take k ps) p [] (omega (arith, front)), front, m .good, ← test, not-false inside h, none-outside);
-    }
-
-  pub moving-end : (k : ℕ) (ps : List ParameterInterpolator) → Moving rs ps₀ k ps → length ps ≤ k → (moved ps₀ ≡ ps) × (allIn rs (values ps) ≡ true)
-  unfolding moved
-  moving-end k ps m h = (m .same ∙ rw (take-all k ps h, drop-of-length-le ps h, append-nil), rw (take-all k ps h) at (m .good))
+    moving-end h =
+        let l : length (take m ps) ≤ k = omega (arith, long) in
+        (v .same ∙ rw (take-all k (take m ps) l, drop-of-length-le (take m ps) l, append-nil), rw (take-all k (take m ps) l) at (v .good))
 
 -- `Found` moved on by i samples
 abbrev pub laterBy : ℕ → Found → Found
@@ -74,7 +92,6 @@ laterBy i (Outside k) = Outside (i + k)
 -- i samples have passed, and what is left of the walk is the walk over the rest
 pub record Walked (rs : List Room) (n : ℕ) (ps₀ : List ParameterInterpolator) (i : ℕ) (ps : List ParameterInterpolator) : Type 0 where
   pub most : i ≤ n
-  pub long : length ps ≡ length ps₀
   pub same : (m : ℕ) → i + m ≡ n → firstOutside rs (stepsOf n ps₀) ≡ laterBy i (firstOutside rs (stepsOf m ps))
 
 module _ (rs : List Room) (n : ℕ) (ps₀ : List ParameterInterpolator) where
@@ -83,7 +100,7 @@ module _ (rs : List Room) (n : ℕ) (ps₀ : List ParameterInterpolator) where
   by-none (Outside k) = ap Outside (omega arith)
 
   pub walked-start : Walked rs n ps₀ 0 ps₀
-  walked-start = record { most = omega arith; long = refl; same = λ m h. let e : m ≡ n = omega arith in rw e (by-none _) }
+  walked-start = record { most = omega arith; same = λ m h. let e : m ≡ n = omega arith in rw e (by-none _) }
 
   module _ (i : ℕ) (ps : List ParameterInterpolator) (w : Walked rs n ps₀ i ps) where
     pub walked-end : n ≤ i → Nowhere ≡ firstOutside rs (stepsOf n ps₀)
@@ -98,6 +115,6 @@ module _ (rs : List Room) (n : ℕ) (ps₀ : List ParameterInterpolator) where
     by-one Nowhere = refl
     by-one (Outside k) = ap Outside (omega arith)
 
-    pub walked-more : i < n → (ps' : List ParameterInterpolator) → moved ps ≡ ps' → allIn rs (values ps') ≡ true → length ps' ≡ length ps → Walked rs n ps₀ (i + 1) ps'
+    pub walked-more : i < n → (ps' : List ParameterInterpolator) → moved ps ≡ ps' → allIn rs (values ps') ≡ true → Walked rs n ps₀ (i + 1) ps'
     unfolding firstOutside stepsOf
-    walked-more h ps' e l g = record { most = omega arith; long = g ∙ w .long; same = λ m q. w .same (suc m) (omega arith) ∙ rw (e, l) (by-one (firstOutside rs (stepsOf m ps'))) }
+    walked-more h ps' e l = record { most = omega arith; same = λ m q. w .same (suc m) (omega arith) ∙ rw (e, l) (by-one (firstOutside rs (stepsOf m ps'))) }
