@@ -1,6 +1,6 @@
 -- What the functions of an oscillator ask of each other and leave, whatever a valid state is for it. No public contract cites it, and a reader need not believe it. Assumes nothing.
 use mathlib.Core.Path.{_≡_}
-use mathlib.Core.Bool.{true}
+use mathlib.Core.Bool.{Bool, true}
 use mathlib.Core.List.{List}
 use Prim.Native.Nat.{_≤_}
 use lib.ListN.{length}
@@ -19,7 +19,16 @@ pub record Fit {S : Type 0} (Valid : S → Type 0) (s : S) (xs : List Float) : T
   pub short : length xs ≤ 4096
   pub valid : Valid s
 
--- and none does
+-- a bool that may spare the walk: where it is true, the walk finds nothing
+abbrev pub Skips : Bool → List Room → List ParameterInterpolator → List Float → Type 0
+Skips safe rooms ps xs = safe ≡ true → firstOutside rooms (stepsOf (length xs) ps) ≡ Nowhere
+
+-- such a call, with such a bool
+pub record Guarded {S : Type 0} (Valid : S → Type 0) (rooms : List Room) (s : S) (ps : List ParameterInterpolator) (safe : Bool) (xs : List Float) : Type 0 where
+  pub fit : Fit Valid s xs
+  pub skips : Skips safe rooms ps xs
+
+-- one of which no step leaves its room
 pub record Playable {S : Type 0} (Valid : S → Type 0) (rooms : List Room) (s : S) (ps : List ParameterInterpolator) (xs : List Float) : Type 0 where
   pub fit : Fit Valid s xs
   pub inside : firstOutside rooms (stepsOf (length xs) ps) ≡ Nowhere

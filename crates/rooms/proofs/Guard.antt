@@ -1,11 +1,12 @@
 -- The guard: where every parameter of a block of up to 4,096 samples passes its test, no step leaves its room, and the walk finds nothing. Assumes nothing.
-use mathlib.Core.Path.{_≡_, refl}
+use mathlib.Core.Path.{_≡_, refl, ap}
 use mathlib.Core.Bool.{Bool, true, _&&_}
 use mathlib.Core.List.{List, [], _∷_}
-use Prim.Native.Nat.{ℕ, _*_, _^_, _≤_, _<_}
+use Prim.Native.Nat.{ℕ, suc, _*_, _^_, _≤_, _<_}
 use native.Mathlib.Nat.{lt-of-le-of-lt}
 use native.Mathlib.Omega.{arith}
 use lib.Dec.{lit<}
+use lib.ListN.{length}
 use lib.Ieee.{Float, lt, le, fits, ofBits}
 use Rattle.floats.specs.F32.{_⊗_, one32, half32, maxFrequency}
 use Rattle.floats.proofs.Bools.{and-both}
@@ -70,6 +71,10 @@ roomsOf (c ∷ cs) = c .room ∷ roomsOf cs
 abbrev pub startsOf : ℕ → List Course → List ParameterInterpolator
 startsOf n [] = []
 startsOf n (c ∷ cs) = newInterpolator (c .value) (c .target) n ∷ startsOf n cs
+
+pub starts-rooms : (n : ℕ) (cs : List Course) → length (startsOf n cs) ≡ length (roomsOf cs)
+starts-rooms n [] = refl
+starts-rooms n (c ∷ cs) = ap suc (starts-rooms n cs)
 
 -- their tests
 abbrev pub testsOf : List Course → List Bool
