@@ -8,14 +8,14 @@ use lib.Ieee.{Float}
 use Rattle.parameter_interpolator.specs.declared.ParameterInterpolator.{ParameterInterpolator}
 use Rattle.rooms.specs.declared.Room.{Room}
 use Rattle.rooms.specs.declared.Found.{Found}
+use Rattle.rooms.specs.declared.Glides.{Glides}
 use Rattle.rooms.specs.declared.Found.the-variants.{Outside, Nowhere}
 use Rattle.block.specs.Counting.{noCounts}
 use Rattle.rooms.specs.Steps.{stepsOf, firstOutside}
 use Rattle.block.specs.Play.{Sample, play}
 use Rattle.block.specs.Calls.{refusal, done, driftOr, run}
-use Rattle.ranges.specs.Ranges.{allOf}
 use Rattle.rooms.proofs.Padding.{unused, used, walk-used, used-front}
-use Rattle.rooms.proofs.Guard.{Course, roomsOf, startsOf, starts-rooms, testsOf, AllPresumed, safe-nowhere}
+use Rattle.rooms.proofs.Guard.{Course, roomsOf, startsOf, starts-rooms, glidesOf, AllPresumed, safe-nowhere}
 use Rattle.block.specs.Fit.{Fit, Skips, Guarded, Playable, playedOf}
 
 module _ {S : Type 0} (make : S → List Float → Float → Sample S) (rooms : List Room) (ps : List ParameterInterpolator) (s : S) (xs : List Float) where
@@ -28,11 +28,13 @@ module _ {S : Type 0} (make : S → List Float → Float → Sample S) (rooms : 
   run-done h = ap (λ (f : Found). driftOr f s xs (play make s noCounts (stepsOf (length xs) ps) xs)) h
 
 -- a call whose walk may be left out where its tests of value and target pass: its parameters are as the guard presumes them, and stand in the first places
-pub guarded : {S : Type 0} {Ok : S → Type 0} {s : S} {xs : List Float} {rooms : List Room} {ps : List ParameterInterpolator} {safe : Bool} → Fit Ok s xs → (cs : List Course) → AllPresumed cs
-    → rooms ≡ roomsOf cs → (qs : List ParameterInterpolator) → ps ≡ startsOf (length xs) cs ++ qs → safe ≡ allOf (testsOf cs) → Guarded Ok rooms s (used rooms ps) safe xs
-guarded {xs = xs} f cs p at-rooms qs at-ps at-safe = record {
+pub guarded : {S : Type 0} {Ok : S → Type 0} {s : S} {xs : List Float} {rooms : List Room} {glides : Glides} → Fit Ok s xs → (cs : List Course) → AllPresumed cs → rooms ≡ roomsOf cs
+    → (others : List ParameterInterpolator) → glides ≡ glidesOf (length xs) cs others → Guarded Ok rooms s (used rooms (glides .interpolators)) (glides .safe) xs
+guarded {xs = xs} f cs p at-rooms others at = record {
   fit = f;
-  skips = λ h. rw (at-rooms, at-ps, used-front (roomsOf cs) (startsOf (length xs) cs) qs (starts-rooms (length xs) cs)) (safe-nowhere (length xs) (f .short) cs p (sym at-safe ∙ h));
+  skips = λ h.
+      rw (at-rooms, at, used-front (roomsOf cs) (startsOf (length xs) cs) others (starts-rooms (length xs) cs))
+      (safe-nowhere (length xs) (f .short) cs p (sym (ap (λ (g : Glides). g .safe) at) ∙ h));
 }
 
 -- as `find_drift` tells it, which takes five places (those without a room of their own change nothing) and leaves the walk out where it may

@@ -1,6 +1,11 @@
 -- Laws of bools and of what a test picks. Those that Mathlib has (`and-true`, `and-assoc`, ..) are `mathlib.Core.Bool`'s. Assumes nothing.
-use mathlib.Core.Path.{_≡_, refl, sym}
+use mathlib.Core.Path.{_≡_, refl, sym, subst}
 use mathlib.Core.Bool.{Bool, true, false, _&&_, cond, true≢false}
+use lib.Dec.{T}
+
+-- a test that passed, as a type
+pub holds : {b : Bool} → b ≡ true → T b
+holds e = subst T (sym e) tt
 
 pub and-both : (p q : Bool) → (p && q) ≡ true → (p ≡ true) × (q ≡ true)
 and-both true q h = (refl, h)

@@ -2,7 +2,7 @@
 -- Then what a reset needs: quotients of at most 1, and products by them. Assumes nothing.
 use mathlib.Core.Path.{_≡_, sym, _∙_}
 use Prim.Native.Nat.{ℕ, _*_, _^_, _≤_, _<_, zero-le}
-use native.Mathlib.Nat.{le-trans, le-of-eq, lt-of-le-of-lt, zero-lt-suc, mul-one, mul-comm, mul-le-mul-right}
+use native.Mathlib.Nat.{le-trans, le-of-eq, lt-of-le-of-lt, zero-lt-suc, mul-one, mul-comm, mul-le-mul-left, mul-le-mul-right}
 use native.Mathlib.Omega.{arith}
 use borrow.Author.Tests.{ltb-true, ltb-false, leb-true, leb-false, lt-ltb, le-leb}
 use mathlib.Core.Bool.{true, false, true≢false}
@@ -100,14 +100,27 @@ div-one {a = a} {b = b} p q B h =
     (le-of-eq (rnd-exact 1 149 (lit< tt))) in
     record { n = rnd (a * 2 ^ 149) b; at = div-at p q B (lt-of-le-of-lt l (lit< tt)); most = l }
 
--- x * y ≤ y for x ≤ 1
-pub mul-le : {x y : Float} {a b : ℕ} → At x a → At y b → a ≤ cycle → UpTo (x ⊗ y) b
+-- a product by at most 1, in either order
+product-le : {x : Float} {a b : ℕ} → At x a → b ≤ cycle → rnd (a * b) (2 ^ 149) ≤ a
 unfolding tick
+product-le {a = a} {b = b} p h =
+    le-trans (rnd-mono (a * b) (2 ^ 149) a 1 (pow-pos 149) (zero-lt-suc 0) (le-trans (le-of-eq (mul-one (a * b))) (mul-le-mul-left a h))) (le-of-eq (at-rnd p))
+
+pub mul-le : {x y : Float} {a b : ℕ} → At x a → At y b → a ≤ cycle → UpTo (x ⊗ y) b
 mul-le {a = a} {b = b} p q h =
-    let l : rnd (a * b) (2 ^ 149) ≤ b =
-    le-trans (rnd-mono (a * b) (2 ^ 149) b 1 (pow-pos 149) (zero-lt-suc 0)
-    (le-trans (le-of-eq (mul-one (a * b))) (le-trans (mul-le-mul-right b h) (le-of-eq (mul-comm (2 ^ 149) b))))) (le-of-eq (at-rnd q)) in
+    let l : rnd (a * b) (2 ^ 149) ≤ b = rw (mul-comm a b) (product-le q h) in
     record { n = rnd (a * b) (2 ^ 149); at = mul-at p q (lt-of-le-of-lt l (at-huge q)); most = l }
+
+pub mul-le-left : {x y : Float} {a b : ℕ} → At x a → At y b → b ≤ cycle → UpTo (x ⊗ y) a
+mul-le-left {a = a} {b = b} p q h =
+    let l = product-le p h in
+    record { n = rnd (a * b) (2 ^ 149); at = mul-at p q (lt-of-le-of-lt l (at-huge p)); most = l }
+
+-- and at least z, which the exact product reaches
+pub mul-ge : {x y z : Float} {a b c : ℕ} → At x a → At y b → At z c → a ≤ cycle → c * 2 ^ 149 ≤ a * b → le z (x ⊗ y) ≡ true
+mul-ge {a = a} {b = b} {c = c} p q r h l =
+    passes-le r (mul-at p q (lt-of-le-of-lt (rw (mul-comm a b) (product-le q h)) (at-huge q)))
+    (le-trans (le-of-eq (sym (at-rnd r))) (rnd-mono c 1 (a * b) (2 ^ 149) (zero-lt-suc 0) (pow-pos 149) (le-trans l (le-of-eq (sym (mul-one (a * b)))))))
 
 -- after a wrap the phase is the step at most, so the reset time is at most 1
 pub reset-time : {p f : Float} {a b : ℕ} → At p a → At f b → 0 < b → a < cycle → b ≤ 4456448 * tick → le one32 (p ⊕ f) ≡ true → UpTo ((p ⊕ f ⊖ one32) ⊘ f) cycle

@@ -4,9 +4,9 @@ use mathlib.Core.Path.{_≡_, refl, sym, _∙_, subst}
 use mathlib.Core.Bool.{Bool, true, false, cond, true≢false}
 use mathlib.Core.Logic.{_⊎_, inl, inr}
 use Prim.Native.Nat.{ℕ, _+_, _-_, _*_, _^_, _≤_, _<_, zero-le}
-use native.Mathlib.Nat.{lt-of-le-of-lt, mul-one, mul-comm, mul-assoc}
+use native.Mathlib.Nat.{le-trans as le-trans-ℕ, lt-of-le-of-lt, mul-one, mul-comm, mul-assoc}
 use native.Mathlib.Omega.{arith}
-use lib.Dec.{T, lit<}
+use lib.Dec.{T, lit<, lit≤}
 use lib.Pow.{pow-pos}
 use lib.Ieee.{Float, binary32, lt, le, isNan, fits, ofBits}
 use lib.Ieee.Fits.{cond-fits, sub-fits, mul-fits}
@@ -14,7 +14,7 @@ use Rattle.floats.specs.F32.{f32, _⊖_, _⊗_, zero32, one32, two32, half32, m
 use Rattle.floats.specs.Helpers.{clampOf, atLeast}
 use Rattle.floats.proofs.Bools.{and-both}
 use Rattle.floats.proofs.Rounding.{rnd, rnd-same, rnd-up, rnd-dn}
-use Rattle.floats.proofs.At.{At, huge, at-rnd, at-huge, mul-at, sub-at}
+use Rattle.floats.proofs.At.{At, huge, sizeOf, at-rnd, at-huge, mul-at, sub-at}
 use Rattle.floats.proofs.Order.{le-trans, lt→le, numbers, not-le-lt, le-or-lt}
 use Rattle.floats.proofs.PowerOfTwo.{mul-pow}
 use Rattle.floats.proofs.Ranges.{at-le, passes-le, passed-le}
@@ -49,11 +49,26 @@ least-min : le leastTarget minFrequency ≡ true
 unfolding le ofBits
 least-min = refl
 
-least-max : le leastTarget maxFrequency ≡ true
+pub least-max : le leastTarget maxFrequency ≡ true
 unfolding le ofBits
 least-max = refl
 
--- of a parameter that passed its test
+min-at : At minFrequency (8796093 * 2 ^ 106)
+unfolding fits ofBits
+min-at = record { fit = tt; reads = refl }
+
+min-ticks : 16 * tick ≤ 8796093 * 2 ^ 106
+unfolding tick
+min-ticks = lit≤ tt
+
+-- a parameter that passed its test: 16 ticks or more, and 1 at most
+pub parameter-at : {f : Float} → T (fits binary32 f) → parameterFrequencyIn f ≡ true → At f (sizeOf f) × (16 * tick ≤ sizeOf f) × (sizeOf f ≤ cycle)
+parameter-at {f} t h =
+    let p = and-both _ _ h in
+    let F = at-le t (le-trans zero32 minFrequency f (passes-le zero-at min-at zero-le) (p .0)) (p .1) one-at in
+    (F, le-trans-ℕ min-ticks (passed-le min-at F (p .0)), passed-le F one-at (p .1))
+
+-- its target
 pub frequency-target : (f : Float) → parameterFrequencyIn f ≡ true → within leastTarget maxFrequency (clipped f) ≡ true
 frequency-target f h = clipped-in leastTarget f (le-trans leastTarget minFrequency f least-min (and-both (le minFrequency f) (le f one32) h .0)) least-max
 

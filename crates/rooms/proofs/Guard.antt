@@ -1,7 +1,7 @@
 -- The guard: where every parameter of a block of up to 4,096 samples passes its test, no step leaves its room, and the walk finds nothing. Assumes nothing.
 use mathlib.Core.Path.{_≡_, refl, ap}
 use mathlib.Core.Bool.{Bool, true, _&&_}
-use mathlib.Core.List.{List, [], _∷_}
+use mathlib.Core.List.{List, [], _∷_, _++_}
 use Prim.Native.Nat.{ℕ, suc, _*_, _^_, _≤_, _<_}
 use native.Mathlib.Nat.{lt-of-le-of-lt}
 use native.Mathlib.Omega.{arith}
@@ -22,6 +22,7 @@ use Rattle.ranges.proofs.TargetRanges.{leastTarget}
 use Rattle.rooms.specs.declared.Room.{Room}
 use Rattle.rooms.specs.declared.Room.the-variants.{Unused, Frequency, StringFrequency, PulseWidth, Waveshape, ModulationOrGain}
 use Rattle.rooms.specs.declared.Found.the-variants.{Nowhere}
+use Rattle.rooms.specs.declared.Glides.{Glides}
 use Rattle.rooms.specs.Safe.{ratio, widest, safeIn}
 use Rattle.rooms.specs.Steps.{stepsOf, firstOutside}
 use Rattle.rooms.proofs.Nowhere.{AllStayIn, nowhere}
@@ -80,6 +81,10 @@ starts-rooms n (c ∷ cs) = ap suc (starts-rooms n cs)
 abbrev pub testsOf : List Course → List Bool
 testsOf [] = []
 testsOf (c ∷ cs) = safeIn (c .room) (c .value) (c .target) ∷ testsOf cs
+
+-- both, with what stands in the places behind them
+abbrev pub glidesOf : ℕ → List Course → List ParameterInterpolator → Glides
+glidesOf n cs others = record { interpolators = startsOf n cs ++ others; safe = allOf (testsOf cs) }
 
 abbrev pub AllPresumed : List Course → Type 0
 AllPresumed [] = Unit {0}

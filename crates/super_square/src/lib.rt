@@ -1,18 +1,20 @@
 // Two hard-synced square waves with one shape parameter: the source's oscillator/super_square_oscillator.rs.
 ghost use mathlib.Core.Path.{_≡_};
-ghost use mathlib.Core.List.{[], _∷_, _++_};
+ghost use mathlib.Core.List.{[], _∷_};
 ghost use Rattle.rooms.specs.Steps.{stillOne};
 ghost use Rattle.rooms.proofs.Padding.{used};
+ghost use Rattle.rooms.proofs.Guard.{glidesOf};
 ghost use Rattle.block.specs.Calls.{run};
-ghost use Rattle.block.specs.Fit.{Fit, Playable, playedOf};
+ghost use Rattle.block.specs.Fit.{Guarded, Playable, playedOf};
 ghost use Rattle.super_square.specs.State.{newState, initState};
 ghost use Rattle.super_square.specs.Sample.{sampleAt};
-ghost use Rattle.super_square.specs.Block.{stateIn, parametersIn, factorOf, interpolators as interpolatorsTo, rooms, renderOf, asCall};
-ghost use Rattle.super_square.specs.Private.{Valid, refused};
+ghost use Rattle.super_square.specs.Block.{stateIn, parametersIn, factorOf, rooms, renderOf, asCall};
+ghost use Rattle.super_square.specs.Private.{Valid, courses, refused};
 use block::Answer;
 use block::Counts;
 use parameter_interpolator::ParameterInterpolator;
 use rooms::Found;
+use rooms::Glides;
 use rooms::Room;
 
 mod sample;
@@ -76,7 +78,7 @@ pub fn render(state: State, frequency: f32, shape: f32, out: &mut [f32]) -> Rend
         return refuse(Answer::BadParam, state);
     }
     let n = out.len() as u32;
-    drift_or_play(state, interpolators(state, frequency, shape, n), out)
+    drift_or_play(state, glides(state, frequency, shape, n), out)
 }
 
 // 01's ranges of a state. `next_sample` may have any bits.
@@ -119,24 +121,29 @@ fn factor(shape: f32) -> f32
 }
 
 // The master's and the slave's frequency on their way to the targets, over n samples; the other places are not used.
-fn interpolators(s: State, frequency: f32, shape: f32, n: u32) -> [ParameterInterpolator; 5]
-    ensures { λ r. ⌜ r ≡ interpolatorsTo s frequency shape n ++ stillOne ∷ stillOne ∷ stillOne ∷ [] ⌝ }
+fn glides(s: State, frequency: f32, shape: f32, n: u32) -> Glides
+    ensures { λ r. ⌜ r ≡ glidesOf n (courses s frequency shape) (stillOne ∷ stillOne ∷ stillOne ∷ []) ⌝ }
 {
     let master_target = ranges::targets::clip(frequency);
     let slave_target = ranges::targets::clip(frequency * factor(shape));
-    [
-        ParameterInterpolator::new(s.master_frequency, master_target, n),
-        ParameterInterpolator::new(s.slave_frequency, slave_target, n),
-        rooms::still(),
-        rooms::still(),
-        rooms::still(),
-    ]
+    let safe = rooms::safe(Room::Frequency, s.master_frequency, master_target)
+        & rooms::safe(Room::Frequency, s.slave_frequency, slave_target);
+    Glides {
+        interpolators: [
+            ParameterInterpolator::new(s.master_frequency, master_target, n),
+            ParameterInterpolator::new(s.slave_frequency, slave_target, n),
+            rooms::still(),
+            rooms::still(),
+            rooms::still(),
+        ],
+        safe,
+    }
 }
 
 // Drift where a step leaves its room, else the samples.
-fn drift_or_play(state: State, p: [ParameterInterpolator; 5], out: &mut [f32]) -> Rendered
-    requires { ⌜ Fit Valid state (now out) ⌝ }
-    ensures { λ r. ⌜ asCall r (now (out .exit)) ≡ run sampleAt rooms (used rooms p) state (now (out .entry)) ⌝ }
+fn drift_or_play(state: State, glides: Glides, out: &mut [f32]) -> Rendered
+    requires { ⌜ Guarded Valid rooms state (used rooms (glides .interpolators)) (glides .safe) (now out) ⌝ }
+    ensures { λ r. ⌜ asCall r (now (out .exit)) ≡ run sampleAt rooms (used rooms (glides .interpolators)) state (now (out .entry)) ⌝ }
 {
     let kept = [
         Room::Frequency,
@@ -145,7 +152,8 @@ fn drift_or_play(state: State, p: [ParameterInterpolator; 5], out: &mut [f32]) -
         Room::Unused,
         Room::Unused,
     ];
-    match rooms::first_outside(p, kept, out.len() as u32) {
+    let p = glides.interpolators;
+    match rooms::find_drift(glides, kept, out.len() as u32) {
         Found::Outside(i) => refuse(Answer::Drift(i), state),
         Found::Nowhere => play(state, p, out),
     }
