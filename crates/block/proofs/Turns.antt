@@ -3,6 +3,7 @@
 use mathlib.Core.Path.{_≡_, refl, sym, _∙_, ap, subst}
 use mathlib.Core.List.{List, [], _∷_, append-nil}
 use Prim.Native.Nat.{ℕ, suc, _+_, _≤_, _<_, _-_}
+use native.Mathlib.Nat.{add-zero}
 use native.Mathlib.Numerals.{add-one}
 use native.Mathlib.Omega.{arith}
 use lib.ListN.{length, getD, take, drop, set, length-set, drop-of-length-le}
@@ -100,3 +101,8 @@ module _ {S : Type 0} {make : S → List Float → Float → Sample S} {rooms : 
               ok = kept .ok;
               few = more;
             })
+
+      -- a sample that counts nothing leaves the counts as they are
+      pub turning-quiet : Keeps make rooms Ok → {s' : S} {y : Float} → record { state = s'; sample = y; counts = noCounts } ≡ make s (values (used rooms ps')) (getD out i nan)
+          → Turning make rooms Ok s₀ ps₀ out₀ s' ps' c (set out i y) (i + 1)
+      turning-quiet keeps e = turning-more keeps {d = noCounts} (sym (simp add-zero (few-fit {i = i} {c = c} (omega (arith, p .short, p .long)) (p .few)))) e

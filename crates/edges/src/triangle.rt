@@ -1,5 +1,6 @@
 // The triangle that the variable shape and the variable saw mix in, and the time of an edge at a width that moves.
 ghost use mathlib.Core.Path.{_≡_};
+ghost use Rattle.floats.specs.F32.{_⊖_, _⊘_, one32};
 ghost use Rattle.edges.specs.Triangle.{triangle as triangleOf, triangleStep, riseTime};
 
 // Up to 1 at the width, and down again to 0 at the end of the cycle. The width itself is on the way down.
@@ -10,6 +11,17 @@ pub fn triangle(phase: f32, pw: f32, slope_up: f32, slope_down: f32) -> f32
         phase * slope_up
     } else {
         1.0 - (phase - pw) * slope_down
+    }
+}
+
+// The same between 0 and 1, with the one slope worked out that the phase is on: an edge has both slopes at hand, and a sample without one needs no more.
+pub fn triangle_at(phase: f32, pw: f32) -> f32
+    ensures { λ r. ⌜ r ≡ triangleOf phase pw (one32 ⊘ pw) (one32 ⊘ (one32 ⊖ pw)) ⌝ }
+{
+    if phase < pw {
+        phase * (1.0 / pw)
+    } else {
+        1.0 - (phase - pw) * (1.0 / (1.0 - pw))
     }
 }
 
