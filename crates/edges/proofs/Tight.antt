@@ -10,6 +10,7 @@ use Rattle.edges.proofs.counts
 use Rattle.edges.proofs.at_reset
 use Rattle.edges.proofs.cut
 use Rattle.edges.proofs.triangle.triangle
+use Rattle.edges.proofs.triangle.triangle_at
 use Rattle.edges.proofs.triangle.triangle_step
 use Rattle.edges.proofs.triangle.rise_time
 
@@ -36,6 +37,9 @@ cut-tight κs a r q v w h k = (coincide h k, refl)
 
 pub triangle-tight : Determines triangle.ended triangle.Reads.Learnt
 triangle-tight κs a r q v w h k = (coincide h k, refl)
+
+pub triangle-at-tight : Determines triangle_at.ended triangle_at.Reads.Learnt
+triangle-at-tight κs a r q v w h k = (coincide h k, refl)
 
 pub triangle-step-tight : Determines triangle_step.ended triangle_step.Reads.Learnt
 triangle-step-tight κs a r q v w h k = (coincide h k, refl)

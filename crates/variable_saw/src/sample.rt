@@ -1,6 +1,7 @@
 // One sample of the variable saw, in the source's order: variable_saw_oscillator.rs, lines 62 to 110.
 ghost use mathlib.Core.Path.{_≡_};
-ghost use Rattle.variable_saw.specs.Sample.{waveOf, notchSaw, naive, riseOf, wrapOf, edgeOf, finish as finished, sampleOf};
+ghost use Rattle.floats.specs.F32.{_⊕_, _⊖_, _⊗_, _⊘_, one32, two32};
+ghost use Rattle.variable_saw.specs.Sample.{waveOf, notchDepth, notchSaw, naive, riseOf, wrapOf, edgeOf, finish as finished, sampleOf};
 use crate::State;
 use block::Counts;
 use edges::Edge;
@@ -39,7 +40,7 @@ impl Wave {
 }
 
 // A saw that stops at the width, lines 123 to 127: from there on it stands above 1 by the notch's depth.
-fn notch_saw(phase: f32, pw: f32) -> f32
+pub(crate) fn notch_saw(phase: f32, pw: f32) -> f32
     ensures { λ r. ⌜ r ≡ notchSaw phase pw ⌝ }
 {
     if phase < pw {
@@ -95,7 +96,14 @@ fn edge(s: State, frequency: f32) -> Edge
     edges::start(s.phase + frequency, s.high, s.next_sample)
 }
 
-// The end of a sample, lines 97 to 107: what the next one starts with gets the waveform, and what is put out goes from -1 to 1 with the notch's depth.
+// What is put out goes from -1 to 1 with the notch's depth: line 107.
+pub(crate) fn put_out(this_sample: f32) -> f32
+    ensures { λ r. ⌜ r ≡ (two32 ⊗ «this_sample» ⊖ one32) ⊘ (one32 ⊕ notchDepth) ⌝ }
+{
+    (2.0 * this_sample - 1.0) / (1.0 + VARIABLE_SAW_NOTCH_DEPTH)
+}
+
+// The end of a sample, lines 97 to 107: what the next one starts with gets the waveform.
 fn finish(e: Edge, w: Wave, frequency: f32, cycles: u32) -> Sampled
     ensures { λ r. ⌜ r ≡ finished w frequency cycles e ⌝ }
 {
@@ -109,7 +117,7 @@ fn finish(e: Edge, w: Wave, frequency: f32, cycles: u32) -> Sampled
             pw: w.pw,
             waveshape: w.triangle_amount,
         },
-        sample: (2.0 * e.this_sample - 1.0) / (1.0 + VARIABLE_SAW_NOTCH_DEPTH),
+        sample: put_out(e.this_sample),
         counts: edges::counts(cycles, e, 0),
     }
 }

@@ -7,7 +7,7 @@ use Rattle.variable_saw.proofs.sample.finish.Tie as tie
 
 returns : tie.Need-returns
 unfolding finish
-returns c = rw (c .before .before .before .compute-naive-sample .ensures, c .counts .ensures) refl
+returns c = rw (c .before .before .before .compute-naive-sample .ensures, c .before .put-out .ensures, c .counts .ensures) refl
 
 pub finish-spec : {M : Type 1} → statement M
-finish-spec = tie.close (tie.spec (λ c κs. search needs) (λ c κs. search needs) returns)
+finish-spec = tie.close (tie.spec (λ c κs. search needs) (λ c κs. search needs) (λ c κs. search needs) returns)
