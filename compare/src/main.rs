@@ -23,7 +23,7 @@ use std::{env, fs, process};
 include!(concat!(env!("OUT_DIR"), "/source.rs"));
 
 const USAGE: &str = "usage: compare make-leaves COUNT SEED | expect-leaves | \
-    make-calls COUNT SEED [--kinds LIST] | make-recorded-calls | \
+    make-calls COUNT SEED [--kinds LIST] | make-recorded-calls | make-drifts TRIES SEED | \
     expect-calls [--kinds LIST] [--stats] | \
     make-lists COUNT SEED | make-recorded-lists | split-lists DIR | expect-list | \
     expect-lists [--stats] | make-starts COUNT SEED | expect-starts | \
@@ -49,6 +49,9 @@ fn run(words: &[&str]) -> Result<(), String> {
             make_calls(number(count)?, number(seed)?, Kinds::parse(list)?)
         }
         ["make-recorded-calls"] => write_calls(&calls::make::recorded()),
+        ["make-drifts", tries, seed] => {
+            write_calls(&calls::make::drifting(number(tries)?, number(seed)?))
+        }
         ["expect-calls", options @ ..] => {
             let (kinds, with_stats) = expect_options(options)?;
             expect_calls(&kinds, with_stats)

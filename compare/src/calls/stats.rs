@@ -1,6 +1,7 @@
 //! What a list of calls went through, for a reader to judge what it tried.
 
 use super::model::Outcome;
+use std::collections::BTreeSet;
 use std::fmt;
 
 #[derive(Clone, Copy, Default)]
@@ -11,10 +12,12 @@ struct KindStats {
     nans: usize,
 }
 
-/// Counts for each kind, by its number; and the records that the line `-` passes over.
+/// Counts for each kind, by its number; the indexes that a Drift came with; and the records that the
+/// line `-` passes over.
 #[derive(Default)]
 pub struct Stats {
     kinds: [KindStats; 6],
+    drifts: BTreeSet<usize>,
     passed_over: usize,
 }
 
@@ -27,6 +30,9 @@ impl Stats {
         let stats = &mut self.kinds[usize::from(kind)];
         stats.answers[outcome.answer] += 1;
         stats.double_rises += outcome.double_rises;
+        if outcome.answer == 6 {
+            self.drifts.insert(outcome.index);
+        }
         if outcome.answer == 0 {
             stats.samples += samples.len();
             stats.nans += samples.iter().filter(|sample| sample.is_nan()).count();
@@ -63,6 +69,19 @@ impl Stats {
     }
 }
 
+/// The runs of indexes that did not come up, below the highest that did.
+fn gaps(indexes: &BTreeSet<usize>) -> String {
+    let mut told = String::new();
+    let mut next = 0;
+    for &index in indexes {
+        if next < index {
+            told += &format!(", none at {next} to {}", index - 1);
+        }
+        next = index + 1;
+    }
+    told
+}
+
 impl KindStats {
     fn records(&self) -> usize {
         self.answers.iter().sum()
@@ -73,6 +92,12 @@ impl fmt::Display for Stats {
     fn fmt(&self, to: &mut fmt::Formatter) -> fmt::Result {
         self.write_kinds(to)?;
         let (records, samples) = (self.records(), self.samples());
+        writeln!(
+            to,
+            "Drift at {} indexes{}",
+            self.drifts.len(),
+            gaps(&self.drifts)
+        )?;
         writeln!(to, "passed over (-): {} records", self.passed_over)?;
         writeln!(to, "total: {records} records, {samples} samples")
     }

@@ -1,7 +1,7 @@
 //! The request's figures, and the laws that the counts and states keep to.
 
 use super::line::buffer;
-use super::make::{drifts::drifts, fields::frequencies, figures, fixed::plain};
+use super::make::{drifting, drifts::drifts, fields::frequencies, figures, fixed::plain};
 use super::model::{self, Counts, Outcome};
 use super::record::*;
 use super::{expect::expect, stats::Stats, Kinds};
@@ -73,6 +73,15 @@ fn every_drift_is_one_and_its_neighbour_is_none() {
             assert!(drift.index == 0 || drift.index == pair[0].length() - 1);
         }
     }
+}
+
+#[test]
+fn a_call_is_made_to_drift_at_almost_every_length() {
+    let records = drifting(2, 1);
+    assert!(records.iter().all(|record| call(record).answer == 6));
+    let at = |record: &Record| call(record).index;
+    let indexes: std::collections::BTreeSet<usize> = records.iter().map(at).collect();
+    assert!(indexes.len() > 3000 && indexes.contains(&4095));
 }
 
 #[test]

@@ -3,7 +3,10 @@
 
 use super::fields::frequencies;
 use super::fixed::plain;
+use crate::calls::line::buffer;
+use crate::calls::model;
 use crate::calls::record::*;
+use crate::random::Random;
 
 /// A frequency or width on its way from `value` to the setting `target` over `length` samples.
 struct Way {
@@ -13,6 +16,7 @@ struct Way {
 }
 
 const LOWEST: f32 = 0.000001;
+const LONGEST: u16 = 4096;
 const TWO_TO_19: f32 = 524_288.0;
 const TWO_TO_26: f32 = 67_108_864.0;
 
@@ -65,16 +69,69 @@ pub fn drifts(kind: u8) -> Vec<Record> {
             records.push(frequency_drifts(kind, word, way, way.length - 1));
         }
     }
-    let width = match kind {
-        SHAPE => 7,
-        SAW => 5,
-        _ => return records,
+    let Some(width) = width_word(kind) else {
+        return records;
     };
     for way in [WIDTH_ON_ZERO, WIDTH_ON_ONE] {
         records.push(width_drifts(kind, width, &way, way.length));
         records.push(width_drifts(kind, width, &way, 2));
     }
     records
+}
+
+/// The state word of a kind's interpolated width.
+fn width_word(kind: u8) -> Option<usize> {
+    match kind {
+        SHAPE => Some(7),
+        SAW => Some(5),
+        _ => None,
+    }
+}
+
+/// For each block length a call that drifts, where one is found in so many tries: as a rule it does
+/// so at its last step, so that every index comes up at which rounding can do it. Short blocks do
+/// not round often enough: in them only a width that stays at 1 drifts, at the first step, and that
+/// is among the fixed calls.
+pub fn everywhere(kind: u8, tries: u64, random: &mut Random) -> Vec<Record> {
+    let of_length = |length: u16| {
+        (0..tries)
+            .map(|_| far_way(kind, length, random))
+            .find(|record| {
+                let outcome = model::call(record, &mut buffer(record)).unwrap();
+                outcome.answer == 6 && outcome.index > 0
+            })
+    };
+    (1..=LONGEST).filter_map(of_length).collect()
+}
+
+/// A long way down to the lowest target there is, of a frequency or a width; or of a width up to
+/// the highest, close to 1.
+fn far_way(kind: u8, length: u16, random: &mut Random) -> Record {
+    if let (Some(word), true) = (width_word(kind), random.one_in(2)) {
+        let (value, target) = match random.below(8) {
+            0 => (1.0, 1.0),
+            1..4 => (random.between(0.0, 1.0), 1.0),
+            _ => (random.between(0.5, 1.0), 0.0),
+        };
+        let way = Way {
+            value,
+            target,
+            length,
+        };
+        return width_drifts(kind, word, &way, length);
+    }
+    let top = if kind == STRING {
+        17.0 / 32.0
+    } else {
+        17.0 / 64.0
+    };
+    let way = Way {
+        value: random.between(top / 2.0, top),
+        target: LOWEST,
+        length,
+    };
+    let (word, _) = random.pick(frequencies(kind));
+    frequency_drifts(kind, word, &way, length)
 }
 
 /// One interpolated frequency goes that way, and the others of the kind a harmless one.

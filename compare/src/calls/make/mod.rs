@@ -29,6 +29,15 @@ pub fn records(count: usize, seed: u64, kinds: &Kinds) -> Vec<Record> {
     records
 }
 
+/// For each kind and block length a call that drifts, where `tries` find one.
+pub fn drifting(tries: u64, seed: u64) -> Vec<Record> {
+    let mut random = Random::new(seed);
+    let kinds = Kinds::all().list().into_iter();
+    kinds
+        .flat_map(|kind| drifts::everywhere(kind, tries, &mut random))
+        .collect()
+}
+
 /// The records of crates/calls: for each kind all fixed ones, those beside a turning point, and some
 /// random ones.
 pub fn recorded() -> Vec<Record> {
