@@ -120,7 +120,7 @@ fn factor(shape: f32) -> f32
     }
 }
 
-// The master's and the slave's frequency on their way to the targets, over n samples; the other places are not used.
+// The master's and the slave's frequency on their way to the targets, over n samples, and whether both are safe; the other places are not used.
 fn glides(s: State, frequency: f32, shape: f32, n: u32) -> Glides
     ensures { λ r. ⌜ r ≡ glidesOf n (courses s frequency shape) (stillOne ∷ stillOne ∷ stillOne ∷ []) ⌝ }
 {
