@@ -2,5 +2,6 @@
 pub mod Samples
 pub mod Keeping
 pub mod Calls
+pub mod Courses
 pub mod Phase
 pub mod Tight

@@ -1,18 +1,20 @@
 // A saw with variable slope or notch: the source's oscillator/variable_saw_oscillator.rs.
 ghost use mathlib.Core.Path.{_≡_};
-ghost use mathlib.Core.List.{[], _∷_, _++_};
+ghost use mathlib.Core.List.{[], _∷_};
 ghost use Rattle.rooms.specs.Steps.{stillOne};
 ghost use Rattle.rooms.proofs.Padding.{used};
+ghost use Rattle.rooms.proofs.Guard.{glidesOf};
 ghost use Rattle.block.specs.Calls.{run};
-ghost use Rattle.block.specs.Fit.{Fit, Playable, playedOf};
+ghost use Rattle.block.specs.Fit.{Guarded, Playable, playedOf};
 ghost use Rattle.variable_saw.specs.State.{newState, initState};
 ghost use Rattle.variable_saw.specs.Sample.{sampleAt};
-ghost use Rattle.variable_saw.specs.Block.{sawPhaseIn, stateIn, parametersIn, interpolators as interpolatorsTo, rooms, renderOf, asCall};
-ghost use Rattle.variable_saw.specs.Private.{Valid, refused};
+ghost use Rattle.variable_saw.specs.Block.{sawPhaseIn, stateIn, parametersIn, rooms, renderOf, asCall};
+ghost use Rattle.variable_saw.specs.Private.{Valid, courses, refused};
 use block::Answer;
 use block::Counts;
 use parameter_interpolator::ParameterInterpolator;
 use rooms::Found;
+use rooms::Glides;
 use rooms::Room;
 
 mod quiet;
@@ -80,11 +82,7 @@ pub fn render(state: State, frequency: f32, pw: f32, waveshape: f32, out: &mut [
         return refuse(Answer::BadParam, state);
     }
     let n = out.len() as u32;
-    drift_or_play(
-        state,
-        interpolators(state, frequency, pw, waveshape, n),
-        out,
-    )
+    drift_or_play(state, glides(state, frequency, pw, waveshape, n), out)
 }
 
 // A phase is below 1, but while `high` it may be up to 81/64: a rise and a wrap exclude each other in one sample.
@@ -127,31 +125,30 @@ fn refuse(answer: Answer, state: State) -> Rendered
     }
 }
 
-// The frequency, the width and the waveshape on their way to the targets, over n samples; the other places are not used.
-fn interpolators(
-    s: State,
-    frequency: f32,
-    pw: f32,
-    waveshape: f32,
-    n: u32,
-) -> [ParameterInterpolator; 5]
-    ensures { λ r. ⌜ r ≡ interpolatorsTo s frequency pw waveshape n ++ stillOne ∷ stillOne ∷ [] ⌝ }
+// The frequency, the width and the waveshape on their way to the targets, over n samples, and whether all are safe: a waveshape always is. The other places are not used.
+fn glides(s: State, frequency: f32, pw: f32, waveshape: f32, n: u32) -> Glides
+    ensures { λ r. ⌜ r ≡ glidesOf n (courses s frequency pw waveshape) (stillOne ∷ stillOne ∷ []) ⌝ }
 {
     let target = ranges::targets::clip(frequency);
     let width = ranges::targets::clamp_width(target, pw);
-    [
-        ParameterInterpolator::new(s.frequency, target, n),
-        ParameterInterpolator::new(s.pw, width, n),
-        ParameterInterpolator::new(s.waveshape, waveshape, n),
-        rooms::still(),
-        rooms::still(),
-    ]
+    let safe = rooms::safe(Room::Frequency, s.frequency, target)
+        & rooms::safe(Room::PulseWidth, s.pw, width);
+    Glides {
+        interpolators: [
+            ParameterInterpolator::new(s.frequency, target, n),
+            ParameterInterpolator::new(s.pw, width, n),
+            ParameterInterpolator::new(s.waveshape, waveshape, n),
+            rooms::still(),
+            rooms::still(),
+        ],
+        safe,
+    }
 }
 
 // Drift where a step leaves its room, else the samples.
-fn drift_or_play(state: State, p: [ParameterInterpolator; 5], out: &mut [f32]) -> Rendered
-    requires { ⌜ Fit Valid state (now out) ⌝ }
-    ensures { λ r. ⌜ asCall r (now (out .exit)) ≡ run sampleAt rooms (used rooms p) state (now (out .entry)) ⌝ }
+fn drift_or_play(state: State, glides: Glides, out: &mut [f32]) -> Rendered
+    requires { ⌜ Guarded Valid rooms state (used rooms (glides .interpolators)) (glides .safe) (now out) ⌝ }
+    ensures { λ r. ⌜ asCall r (now (out .exit)) ≡ run sampleAt rooms (used rooms (glides .interpolators)) state (now (out .entry)) ⌝ }
 {
     let kept = [
         Room::Frequency,
@@ -160,7 +157,8 @@ fn drift_or_play(state: State, p: [ParameterInterpolator; 5], out: &mut [f32]) -
         Room::Unused,
         Room::Unused,
     ];
-    match rooms::first_outside(p, kept, out.len() as u32) {
+    let p = glides.interpolators;
+    match rooms::find_drift(glides, kept, out.len() as u32) {
         Found::Outside(i) => refuse(Answer::Drift(i), state),
         Found::Nowhere => play(state, p, out),
     }
