@@ -1,0 +1,135 @@
+/* What is measured: a cell is an oscillator, a pitch and a block length. Here are the cells, the settings of their blocks, and the call of an
+ * implementation with them. */
+#ifndef CELLS_H
+#define CELLS_H
+
+#include <math.h>
+#include <string.h>
+
+#include "implementations.h"
+
+#define UNIT 4096  /* samples that are rendered in one turn, in blocks of the cell's length */
+#define TABLE 1024 /* settings: each block takes the next ones */
+
+/* The numbers of the kinds are those of a job record. */
+enum kind { VARIABLE_SHAPE = 1, VARIABLE_SAW, SUPER_SQUARE, NES_TRIANGLE, STRING_SYNTH };
+
+struct oscillator {
+    const char *name;
+    enum kind kind;
+    bool sync;
+};
+static const struct oscillator oscillators[] = {
+    {"super_square", SUPER_SQUARE, false}, {"variable_shape", VARIABLE_SHAPE, false}, {"variable_shape_sync", VARIABLE_SHAPE, true},
+    {"variable_saw", VARIABLE_SAW, false}, {"nes_triangle", NES_TRIANGLE, false},     {"string_synth", STRING_SYNTH, false},
+};
+
+/* Frequencies lie within half an octave of these on either side. */
+struct pitch {
+    const char *name;
+    float frequency, master_frequency;
+};
+static const struct pitch pitches[] = {{"low", 0.001f, 0.0006f}, {"middle", 0.02f, 0.012f}, {"high", 0.2f, 0.13f}};
+
+static const size_t blocks[] = {4096, 64, 32};
+
+/* NULL where there is none of that name. */
+static inline const struct oscillator *oscillator_named(const char *name)
+{
+    for (size_t i = 0; i < COUNT_OF(oscillators); i++)
+        if (!strcmp(name, oscillators[i].name))
+            return &oscillators[i];
+    return NULL;
+}
+
+static inline const struct pitch *pitch_named(const char *name)
+{
+    for (size_t i = 0; i < COUNT_OF(pitches); i++)
+        if (!strcmp(name, pitches[i].name))
+            return &pitches[i];
+    return NULL;
+}
+
+struct cell {
+    const struct oscillator *oscillator;
+    const struct pitch *pitch;
+    size_t block;
+};
+
+struct settings {
+    float frequency, master_frequency, pw, waveshape, phase_modulation, gain, registration[7];
+};
+#define NUM_BITS 4
+
+/* From 0 to below 1, the same numbers in every run. */
+static inline float random_part(uint64_t *seed)
+{
+    *seed = *seed * 6364136223846793005u + 1442695040888963407u;
+    return (float)(*seed >> 40) / (float)(1u << 24);
+}
+
+/* Everything moves from block to block. The highest frequency stays below the one at which the source clips it. */
+static inline void fill_settings(struct settings table[TABLE], const struct pitch *pitch)
+{
+    uint64_t seed = 12345;
+    for (size_t i = 0; i < TABLE; i++) {
+        struct settings *s = &table[i];
+        s->frequency = fminf(pitch->frequency * powf(2, random_part(&seed) - 0.5f), 0.24f);
+        s->master_frequency = pitch->master_frequency * powf(2, random_part(&seed) - 0.5f);
+        for (size_t k = 0; k < 7; k++)
+            s->registration[k] = random_part(&seed);
+        s->pw = 0.05f + 0.9f * random_part(&seed);
+        s->waveshape = random_part(&seed);
+        s->phase_modulation = 8 * random_part(&seed) - 4;
+        s->gain = random_part(&seed);
+    }
+}
+
+/* As many words as the largest state needs: the Rust's is its struct, the face's are words. */
+struct state {
+    _Alignas(64) uint32_t words[32];
+};
+
+static inline struct state started(const struct implementation *by, const struct oscillator *o)
+{
+    struct state state = {{0}};
+    switch (o->kind) {
+    case VARIABLE_SHAPE: by->variable_shape.init(state.words); break;
+    case VARIABLE_SAW: by->variable_saw.init(state.words); break;
+    case SUPER_SQUARE: by->super_square.init(state.words); break;
+    case NES_TRIANGLE: by->nes_triangle.init(state.words); break;
+    case STRING_SYNTH: by->string_synth.init(state.words); break;
+    }
+    return state;
+}
+
+/* Its answer. The Rust writes none, so that it is 0. */
+static inline uint32_t render(const struct implementation *by, const struct oscillator *o, uint32_t *state, const struct settings *s, float *out, size_t count)
+{
+    uint32_t result[6] = {0};
+    switch (o->kind) {
+    case VARIABLE_SHAPE:
+        by->variable_shape.render(state, s->master_frequency, s->frequency, s->pw, s->waveshape, s->phase_modulation, o->sync, false, out, count, result);
+        break;
+    case VARIABLE_SAW: by->variable_saw.render(state, s->frequency, s->pw, s->waveshape, out, count, result); break;
+    case SUPER_SQUARE: by->super_square.render(state, s->frequency, s->waveshape, out, count, result); break;
+    case NES_TRIANGLE: by->nes_triangle.render(state, s->frequency, NUM_BITS, out, count, result); break;
+    case STRING_SYNTH: by->string_synth.render(state, s->frequency, s->registration, 7, s->gain, out, count, result); break;
+    }
+    return result[0];
+}
+
+/* A unit: each block's part of the buffer is cleared, then rendered. The answers, or'ed. */
+static inline uint32_t render_unit(const struct implementation *by, const struct cell *cell, struct state *state, const struct settings table[TABLE], size_t unit, float out[UNIT])
+{
+    uint32_t answers = 0;
+    size_t calls = UNIT / cell->block;
+    for (size_t i = 0; i < calls; i++) {
+        float *part = out + i * cell->block;
+        memset(part, 0, cell->block * sizeof *part);
+        answers |= render(by, cell->oscillator, state->words, &table[(unit * calls + i) % TABLE], part, cell->block);
+    }
+    return answers;
+}
+
+#endif
