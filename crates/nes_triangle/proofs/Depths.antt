@@ -10,7 +10,7 @@ use mir.Val.{SFits, toZ, ofZ}
 use mir.Facts.{toZ-ofZ}
 use lib.Dec.{leb, ltb, eqb, lit<}
 use lib.IntN.{ℤ, pos, negsuc, natAbs}
-use lib.Pow.{pow-mono, shl-exact}
+use lib.Pow.{pow-mono, pow-pos, shl-exact}
 use lib.Signed.{ltZ}
 use Rattle.floats.proofs.Bools.{and-both}
 use Rattle.nes_triangle.specs.Depth.{bitsIn, testedBits, topOf}
@@ -35,6 +35,13 @@ top-most n step h = go (eqb n 2) refl
     go : (o : Bool) → eqb n 2 ≡ o → step ≤ cond o 2 (n - 1)
     go true e = omega (arith, eqb-true n 2 e)
     go false e = omega arith
+
+pub top-few : (bits : ℕ) → bits ≤ 16 → topOf (2 ^ bits) < 65536
+top-few bits h = go (eqb (2 ^ bits) 2)
+  where
+    go : (o : Bool) → cond o 2 (2 ^ bits - 1) < 65536
+    go true = lit< tt
+    go false = omega (arith, few-steps bits h, pow-pos bits)
 
 pub top-some : (n top : ℕ) → 2 ≤ n → top ≡ topOf n → 1 ≤ top
 top-some n top h e = rw e (top-most n 1 (omega arith))

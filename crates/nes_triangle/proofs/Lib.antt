@@ -1,6 +1,8 @@
 -- The laws of the NES triangle.
 pub mod Depths
 pub mod Stepping
+pub mod Silent
+pub mod Reaching
 pub mod Keeping
 pub mod Calls
 pub mod Phase

@@ -19,14 +19,12 @@ use Rattle.floats.proofs.WholeNumbers.{whole-at}
 use Rattle.whole_part.specs.WholePart.{wholePart, isWhole}
 use Rattle.whole_part.proofs.Exact.{whole-part-at}
 use Rattle.block.specs.Counting.{oneIf}
-use Rattle.floats.proofs.Bools.{and-both}
 use Rattle.nes_triangle.specs.declared.State.{State}
 use Rattle.nes_triangle.specs.declared.depth.Depth.{Depth}
-use Rattle.nes_triangle.specs.declared.sample.Stepped.{Stepped}
 use Rattle.nes_triangle.specs.Depth.{depthOf}
 use Rattle.nes_triangle.specs.Sample.{wrapPhase, wrapStep, steppedOf}
 use Rattle.nes_triangle.specs.Private.{Ready}
-use Rattle.nes_triangle.proofs.Depths.{few-steps, top-most}
+use Rattle.nes_triangle.proofs.Depths.{few-steps, top-most, top-few}
 
 -- ---- the whole part of a phase of n units, below 2, times the number of steps
 module _ {x : Float} {n : ℕ} (bits : ℕ) (few : bits ≤ 16) (p : At x n) (h : n < 2 * cycle) where
@@ -59,9 +57,6 @@ wraps whole step n h = go (leb n whole) refl
 step-under : (whole n : ℕ) (wrap : Bool) → wrap ≡ leb n whole → whole < 2 * n → wrapStep whole n wrap < n
 step-under whole n true e h = omega (arith, leb-true n whole (sym e))
 step-under whole n false e h = omega (arith, leb-false n whole (sym e))
-
-pub wrap-enough : (changed : Bool) (whole n : ℕ) → (changed && leb n whole) ≡ true → n ≤ whole
-wrap-enough changed whole n h = leb-true n whole (and-both changed (leb n whole) h .1)
 
 -- what a sample does to a phase of a units with a step of b, and to the state's step
 pub record StepLaw (d : Depth) (s : State) (frequency : Float) (bits a b : ℕ) : Type 0 where
@@ -101,17 +96,13 @@ module _ (d : Depth) (s : State) (frequency : Float) (h : Ready d s frequency) w
         step = stepped-step whole (d .«num_steps») (s .step) at-whole (h .valid .step .is) at-n;
       }
 
-  pub finishable : (t : Stepped) → t ≡ steppedOf d s frequency → (t .«next_step» ≤ d .top) × (t .«next_step» < 65536)
+  -- what a new step and the end of a sample ask: small numbers, and a step of at most the top
+  pub turnable : (whole : ℕ) → whole ≡ wholePart ((s .phase ⊕ frequency) ⊗ d .«num_steps_f») → (whole < 2 * d .«num_steps») × (d .«num_steps» ≤ 65536)
   unfolding depthOf
-  finishable t e =
-      let u : t .«next_step» < 2 ^ h .bits = rw e (step-law .step) in
-      (subst (λ (e : Depth). t .«next_step» ≤ e .top) (sym (h .depth)) (top-most (2 ^ h .bits) (t .«next_step») u), omega (arith, few-steps (h .bits) (h .bits-in .high)))
+  turnable whole e = rw (e, h .depth) (rw (whole-is (h .bits) (h .bits-in .high) (sum .at) low) (whole-under (h .bits) (h .bits-in .high) (sum .at) low), few-steps (h .bits) (h .bits-in .high))
 
--- the turn, from its parts
-pub stepped-is : (d : Depth) (s : State) (frequency : Float) (whole : ℕ) (same : Bool) (phase : Float) (next : ℕ)
-    → whole ≡ wholePart ((s .phase ⊕ frequency) ⊗ d .«num_steps_f») → same ≡ isWhole whole (s .step)
-    → (let wrap = not same && leb (d .«num_steps») whole in
-    phase ≡ wrapPhase (s .phase ⊕ frequency) wrap → next ≡ wrapStep whole (d .«num_steps») wrap
-    → record { reached = s .phase ⊕ frequency; phase = phase; «next_step» = next; changed = not same; wrap = wrap } ≡ steppedOf d s frequency)
-unfolding steppedOf
-stepped-is d s frequency whole same phase next at-whole at-same at-phase at-next = rw (at-phase, at-next, at-same, at-whole)
+  pub finishable : (steppedOf d s frequency .«next_step» ≤ d .top) × (d .top < 65536)
+  unfolding depthOf
+  finishable =
+      let u = step-law .step in
+      (subst (λ (e : Depth). steppedOf d s frequency .«next_step» ≤ e .top) (sym (h .depth)) (top-most (2 ^ h .bits) _ u), rw (h .depth) (top-few (h .bits) (h .bits-in .high)))

@@ -17,6 +17,7 @@ use rooms::Room;
 
 mod depth;
 mod sample;
+mod step;
 
 // The source's fields, in its order.
 pub struct State {

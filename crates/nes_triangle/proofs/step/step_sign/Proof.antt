@@ -1,10 +1,10 @@
--- `nes_triangle::sample::step_sign` meets its contract: each way of the test is the definition's. Assumes nothing.
+-- `nes_triangle::step::step_sign` meets its contract: each way of the test is the definition's. Assumes nothing.
 use mathlib.Core.Path.{ap}
 use lib.Ieee.{neg}
 use borrow.Author.Tests.{eq-eqb, ne-eqb}
 use borrow.Author.Needs.{needs}
-use Rattle.nes_triangle.proofs.sample.step_sign.Statement.{statement}
-use Rattle.nes_triangle.proofs.sample.step_sign.Tie as tie
+use Rattle.nes_triangle.proofs.step.step_sign.Statement.{statement}
+use Rattle.nes_triangle.proofs.step.step_sign.Tie as tie
 
 returns : tie.Need-returns
 returns c = rw (eq-eqb _ 2 (c .if1 .taken)) (ap neg (c .before .direction .ensures))

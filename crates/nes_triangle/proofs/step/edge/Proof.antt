@@ -1,8 +1,8 @@
--- `nes_triangle::sample::edge` meets its contract: each way of the test is the definition's. Assumes nothing.
+-- `nes_triangle::step::edge` meets its contract: each way of the test is the definition's. Assumes nothing.
 use Rattle.nes_triangle.specs.Sample.{edgeOf}
 use borrow.Author.Needs.{needs}
-use Rattle.nes_triangle.proofs.sample.edge.Statement.{statement}
-use Rattle.nes_triangle.proofs.sample.edge.Tie as tie
+use Rattle.nes_triangle.proofs.step.edge.Statement.{statement}
+use Rattle.nes_triangle.proofs.step.edge.Tie as tie
 
 returns : tie.Need-returns
 unfolding edgeOf
@@ -10,7 +10,7 @@ returns c =
     let n = c .before in
     let t = n .before .before in
     let f = t .before in
-    rw (f .before .before .if1 .taken, t .this-blep-sample .ensures, n .next-blep-sample .ensures, f .nearest-u32-to-f32 .ensures)
+    rw (f .before .before .if1 .taken, t .this-blep-sample .ensures, n .next-blep-sample .ensures, f .small .ensures)
 
 returns-2 : tie.Need-returns-2
 unfolding edgeOf

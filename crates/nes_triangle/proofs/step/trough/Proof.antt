@@ -1,8 +1,8 @@
--- `nes_triangle::sample::trough` meets its contract: each way of the test is the definition's. Assumes nothing.
+-- `nes_triangle::step::trough` meets its contract: each way of the test is the definition's. Assumes nothing.
 use Rattle.nes_triangle.specs.Sample.{troughOf}
 use borrow.Author.Needs.{needs}
-use Rattle.nes_triangle.proofs.sample.trough.Statement.{statement}
-use Rattle.nes_triangle.proofs.sample.trough.Tie as tie
+use Rattle.nes_triangle.proofs.step.trough.Statement.{statement}
+use Rattle.nes_triangle.proofs.step.trough.Tie as tie
 
 returns : tie.Need-returns
 unfolding troughOf
