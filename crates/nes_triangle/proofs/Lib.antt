@@ -4,6 +4,8 @@ pub mod Stepping
 pub mod Silent
 pub mod Reaching
 pub mod Keeping
+pub mod Held
+pub mod Playing
 pub mod Calls
 pub mod Phase
 pub mod Tight

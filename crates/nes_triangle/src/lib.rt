@@ -16,6 +16,7 @@ use rooms::Found;
 use rooms::Room;
 
 mod depth;
+mod quiet;
 mod sample;
 mod step;
 
@@ -151,23 +152,32 @@ fn drift_or_play(
     }
 }
 
-// Every sample of the buffer.
+// Every sample of the buffer. Those in which nothing happens go the short way, and nothing is counted there.
 fn play(state: State, num_bits: u32, p: [ParameterInterpolator; 5], out: &mut [f32]) -> Rendered
     requires { ⌜ Playable (Passed «num_bits») rooms state (used rooms p) (now out) ⌝ }
     ensures { λ r. ⌜ asCall r (now (out .exit)) ≡ playedOf (sampleAt «num_bits») state (used rooms p) (now (out .entry)) ⌝ }
 {
     let d = depth::of_bits(num_bits);
     let mut s = state;
+    let mut held = quiet::hold(d, s);
     let mut moving = p;
     let mut counts = block::none();
     let mut i = 0;
     while i < out.len() {
         moving = rooms::advance(moving);
-        let t = sample::sample(d, s, moving[0].value);
-        out[i] = t.sample;
-        s = t.state;
-        counts = block::sum(counts, t.counts);
-        i += 1;
+        if quiet::is_quiet(d, s, held, moving[0].value) {
+            let q = quiet::sample(d, s, held, moving[0].value);
+            out[i] = q.sample;
+            s = q.state;
+            i += 1;
+        } else {
+            let t = sample::sample(d, s, moving[0].value);
+            out[i] = t.sample;
+            s = t.state;
+            held = quiet::hold(d, s);
+            counts = block::sum(counts, t.counts);
+            i += 1;
+        }
     }
     Rendered {
         answer: Answer::Done,

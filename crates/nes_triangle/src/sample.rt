@@ -51,7 +51,7 @@ fn on_step(s: State, whole: u32) -> bool
 }
 
 // Lines 59 to 62: from the steps at full resolution to a naive triangle, from half a step a sample to a whole one.
-fn fade(d: Depth, frequency: f32) -> Gains
+pub(crate) fn fade(d: Depth, frequency: f32) -> Gains
     ensures { λ r. ⌜ r ≡ gainsOf d frequency ⌝ }
 {
     let point = (frequency - 0.5 / d.num_steps_f) * 2.0 * d.num_steps_f;
@@ -108,7 +108,7 @@ fn reach(d: Depth, s: State, g: Gains, frequency: f32) -> Reached
 }
 
 // The stepped triangle's height, lines 123 to 127.
-fn nes_level(step: u32, half: u32, top: u32) -> u32
+pub(crate) fn nes_level(step: u32, half: u32, top: u32) -> u32
     requires { ⌜ step ≤ top ⌝ }
     ensures { λ r. ⌜ (r ≡ nesLevel step half top) × (r ≤ top) ⌝ }
 {
@@ -116,7 +116,7 @@ fn nes_level(step: u32, half: u32, top: u32) -> u32
 }
 
 // The naive one's, lines 131 to 135.
-fn tri_level(phase: f32) -> f32
+pub(crate) fn tri_level(phase: f32) -> f32
     ensures { λ r. ⌜ r ≡ triLevel phase ⌝ }
 {
     if phase < 0.5 {
