@@ -1,5 +1,6 @@
 -- The laws of the variable shape.
 pub mod Edges
+pub mod Samples
 pub mod Keeping
 pub mod Places
 pub mod Calls

@@ -1,8 +1,8 @@
 // One sample of the variable shape, in the source's order: variable_shape_oscillator.rs, lines 95 to 210.
 ghost use mathlib.Core.Path.{_≡_};
 ghost use Rattle.edges.specs.Private.{Crossable};
-ghost use Rattle.variable_shape.specs.Sample.{riseOf, fallOf, crossed, edgeOf, resetEdge, masterStep, after as stateAfter, finish as finished, freeCycles, resetSample, plainSample, sampleOf};
-ghost use Rattle.variable_shape.specs.Private.{Ready};
+ghost use Rattle.variable_shape.specs.Sample.{riseOf, fallOf, crossed, edgeOf, masterStep, after as stateAfter, finish as finished, freeCycles, sampleOf};
+ghost use Rattle.variable_shape.specs.Private.{Ready, resetStart, plainStart, begun, crossedIf, endOf};
 use crate::State;
 use crate::output;
 use crate::steps::Steps;
@@ -16,6 +16,24 @@ pub struct Sampled {
     pub sample: f32,
     pub state: State,
     pub counts: Counts,
+}
+
+// A sample before its crossings: the master's phase and the slave's edge after their steps, and whether the crossing loop runs. After a reset the
+// slave starts anew at `restart`.
+pub struct Start {
+    pub master_phase: f32,
+    pub reset: bool,
+    pub restart: f32,
+    pub edge: Edge,
+    pub crosses: bool,
+}
+
+// How the crossings leave the slave, and what is counted beside them.
+pub struct End {
+    pub slave_phase: f32,
+    pub high: bool,
+    pub cycles: u32,
+    pub cuts: u32,
 }
 
 // Up through the pulse width, lines 149 to 157. t is an infinity or a NaN where the width has moved up by just the frequency, as in the source. The
@@ -85,19 +103,96 @@ fn edge(s: State, slave_frequency: f32) -> Edge
     edges::start(s.slave_phase + slave_frequency, s.high, s.next_sample)
 }
 
-// The edge of a sample whose master wrapped `time` samples ago, lines 118 to 176. Where no transition falls before the reset, the slave's step crosses
-// nothing: the reset puts its phase back.
-fn reset_edge(s: State, w: Waveform, time: f32) -> Edge
-    requires { ⌜ Crossable (w .pw) (edgeOf s (w .«slave_frequency»)) ⌝ }
-    ensures { λ r. ⌜ r ≡ resetEdge s w time ⌝ }
+// The master's step, line 113, which it takes only with sync.
+fn master_step(sync: bool, master_phase: f32, master_frequency: f32) -> f32
+    ensures { λ r. ⌜ r ≡ masterStep sync «master_phase» «master_frequency» ⌝ }
 {
+    if sync {
+        master_phase + master_frequency
+    } else {
+        master_phase
+    }
+}
+
+// The start of a sample whose master wrapped, to `master_phase`, lines 115 to 138 and 179. Where no transition falls before the reset, the slave's step
+// crosses nothing: the reset puts its phase back.
+fn reset_start(s: State, steps: Steps, w: Waveform, master_phase: f32) -> Start
+    ensures { λ r. ⌜ r ≡ resetStart s steps w «master_phase» ⌝ }
+{
+    let time = master_phase / steps.master_frequency;
     let found = edges::at_reset(s.slave_phase, s.high, w.slave_frequency, w.pw, time);
-    let e = edges::cut(
-        edge(s, w.slave_frequency),
-        waveform::naive(w, found.slave_phase),
-        time,
-    );
-    if found.transition { cross(e, w) } else { e }
+    Start {
+        master_phase,
+        reset: true,
+        restart: time * steps.slave_frequency,
+        edge: edges::cut(
+            edge(s, w.slave_frequency),
+            waveform::naive(w, found.slave_phase),
+            time,
+        ),
+        crosses: found.transition,
+    }
+}
+
+// Of one whose master did not, line 141. The slave goes on from where its crossings leave it: `restart` is not read.
+fn plain_start(s: State, w: Waveform, master_phase: f32) -> Start
+    ensures { λ r. ⌜ r ≡ plainStart s w «master_phase» ⌝ }
+{
+    Start {
+        master_phase,
+        reset: false,
+        restart: 0.0,
+        edge: edge(s, w.slave_frequency),
+        crosses: true,
+    }
+}
+
+// Lines 112 to 115: a master's phase of exactly 1 wraps, and so resets. Without sync it may stand there and never does.
+fn begin(s: State, steps: Steps, w: Waveform, sync: bool) -> Start
+    ensures { λ r. ⌜ r ≡ begun sync s steps w ⌝ }
+{
+    let master_phase = master_step(sync, s.master_phase, steps.master_frequency);
+    if sync & (master_phase >= 1.0) {
+        reset_start(s, steps, w, master_phase - 1.0)
+    } else {
+        plain_start(s, w, master_phase)
+    }
+}
+
+// Line 143. With a reset or without, the loop is called here alone, so that it is compiled in its place.
+fn cross_if(crosses: bool, e: Edge, w: Waveform) -> Edge
+    requires { ⌜ Crossable (w .pw) e ⌝ }
+    ensures { λ r. ⌜ r ≡ crossedIf crosses w e ⌝ }
+{
+    if crosses { cross(e, w) } else { e }
+}
+
+// The cycles of a sample without a reset. Without sync it is the slave's wraps that count, and it falls where it wraps.
+fn free_cycles(sync: bool, falls: u32) -> u32
+    ensures { λ r. ⌜ r ≡ freeCycles sync falls ⌝ }
+{
+    if sync { 0 } else { falls }
+}
+
+// Lines 178 to 181: after a reset the slave is low and starts anew, and a high one is cut.
+fn leave(sync: bool, reset: bool, restart: f32, e: Edge) -> End
+    ensures { λ r. ⌜ r ≡ endOf sync reset restart e ⌝ }
+{
+    if reset {
+        End {
+            slave_phase: restart,
+            high: false,
+            cycles: 1,
+            cuts: block::one_if(e.high),
+        }
+    } else {
+        End {
+            slave_phase: e.phase,
+            high: e.high,
+            cycles: free_cycles(sync, e.crossings.falls),
+            cuts: 0,
+        }
+    }
 }
 
 // The state after a sample, with what the next one starts with: the source adds the waveform to it last, line 183. Without phase output the step
@@ -144,70 +239,16 @@ fn finish(sync: bool, phase_output: bool, e: Edge, s: State, cycles: u32, cuts: 
     }
 }
 
-// With a reset, lines 114 to 138 and 178 to 181: the slave starts anew, low, from where it is `time` after the reset. A high one is cut.
-fn reset_sample(s: State, steps: Steps, phase_output: bool, master_phase: f32) -> Sampled
-    requires { ⌜ Crossable (steps .pw) (edgeOf s (steps .«slave_frequency»)) ⌝ }
-    ensures { λ r. ⌜ r ≡ resetSample «phase_output» s steps «master_phase» ⌝ }
-{
-    let w = waveform::at(steps, s.previous_pw);
-    let time = master_phase / steps.master_frequency;
-    let e = reset_edge(s, w, time);
-    let slave_phase = time * steps.slave_frequency;
-    let t = after(w, e, master_phase, slave_phase, false, steps);
-    finish(true, phase_output, e, t, 1, block::one_if(e.high))
-}
-
-// The cycles of a sample without a reset. Without sync it is the slave's wraps that count, and it falls where it wraps.
-fn free_cycles(sync: bool, falls: u32) -> u32
-    ensures { λ r. ⌜ r ≡ freeCycles sync falls ⌝ }
-{
-    if sync { 0 } else { falls }
-}
-
-// Without one, lines 141 to 176.
-fn plain_sample(
-    s: State,
-    steps: Steps,
-    sync: bool,
-    phase_output: bool,
-    master_phase: f32,
-) -> Sampled
-    requires { ⌜ Crossable (steps .pw) (edgeOf s (steps .«slave_frequency»)) ⌝ }
-    ensures { λ r. ⌜ r ≡ plainSample sync «phase_output» s steps «master_phase» ⌝ }
-{
-    let w = waveform::at(steps, s.previous_pw);
-    let e = cross(edge(s, steps.slave_frequency), w);
-    let t = after(w, e, master_phase, e.phase, e.high, steps);
-    finish(
-        sync,
-        phase_output,
-        e,
-        t,
-        free_cycles(sync, e.crossings.falls),
-        0,
-    )
-}
-
-// The master's step, line 113, which it takes only with sync.
-fn master_step(sync: bool, master_phase: f32, master_frequency: f32) -> f32
-    ensures { λ r. ⌜ r ≡ masterStep sync «master_phase» «master_frequency» ⌝ }
-{
-    if sync {
-        master_phase + master_frequency
-    } else {
-        master_phase
-    }
-}
-
-// Lines 112 to 115: a master's phase of exactly 1 wraps, and so resets. Without sync it may stand there and never does.
+// With a reset or without, in the source's order. The crossing loop, the state and what is put out stand here once for both.
 pub(crate) fn sample(s: State, steps: Steps, sync: bool, phase_output: bool) -> Sampled
     requires { ⌜ Ready s steps ⌝ }
     ensures { λ r. ⌜ r ≡ sampleOf sync «phase_output» s steps ⌝ }
 {
-    let master_phase = master_step(sync, s.master_phase, steps.master_frequency);
-    if sync & (master_phase >= 1.0) {
-        reset_sample(s, steps, phase_output, master_phase - 1.0)
-    } else {
-        plain_sample(s, steps, sync, phase_output, master_phase)
-    }
+    let w = waveform::at(steps, s.previous_pw);
+    let start = begin(s, steps, w, sync);
+    let uncrossed = start.edge;
+    let e = cross_if(start.crosses, uncrossed, w);
+    let end = leave(sync, start.reset, start.restart, e);
+    let t = after(w, e, start.master_phase, end.slave_phase, end.high, steps);
+    finish(sync, phase_output, e, t, end.cycles, end.cuts)
 }
