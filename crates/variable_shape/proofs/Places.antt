@@ -34,17 +34,25 @@ unfolding sampleOf resetSample plainSample finish
 stores sync phaseOutput s steps =
     cond-both (λ (t : Sampled). t .state .«phase_modulation» ≡ steps .«phase_modulation») (sync && le one32 (masterStep sync (s .«master_phase») (steps .«master_frequency»))) _ _ refl refl
 
--- so what stood still stands still
-pub stays : (sync phaseOutput : Bool) (s₀ s : State) (steps : Steps) (step : Float) {t : Sampled} → steps .«phase_modulation» ≡ cond phaseOutput step (s₀ .«phase_modulation») → t ≡ sampleOf sync phaseOutput s steps
-    → Stays phaseOutput s₀ (t .state)
-unfolding Stays
-stays sync phaseOutput s₀ s steps step m e h = rw (e, stores sync phaseOutput s steps, m, h)
+-- the steps that the code takes from the places
+abbrev pub stepsFrom : List ParameterInterpolator → Bool → Float → Steps
+stepsFrom ps phaseOutput before = record {
+  «master_frequency» = place ps 0 .value;
+  «slave_frequency» = place ps 1 .value;
+  pw = place ps 2 .value;
+  waveshape = place ps 3 .value;
+  «phase_modulation» = cond phaseOutput (place ps 4 .value) before;
+}
 
--- the values at the places are the sample's steps; the fifth is read only where the phase is put out
-pub read : (phaseOutput : Bool) (s₀ s : State) → Stays phaseOutput s₀ s → (ps : List ParameterInterpolator)
-    → ((k : ℕ) → k < length (rooms phaseOutput) → place ps k .value ≡ getD (values (used (rooms phaseOutput) ps)) k zero32) → {x : Float} → x ≡ cond phaseOutput (place ps 4 .value) (s₀ .«phase_modulation»)
-    → record { «master_frequency» = place ps 0 .value; «slave_frequency» = place ps 1 .value; pw = place ps 2 .value; waveshape = place ps 3 .value; «phase_modulation» = x }
-    ≡ stepsAt phaseOutput s (values (used (rooms phaseOutput) ps))
-unfolding Stays
-read true s₀ s k ps at e = rw (e, at 0 (lit< tt), at 1 (lit< tt), at 2 (lit< tt), at 3 (lit< tt), at 4 (lit< tt))
-read false s₀ s k ps at e = rw (e, k refl, at 0 (lit< tt), at 1 (lit< tt), at 2 (lit< tt), at 3 (lit< tt))
+module _ (s₀ s : State) (ps : List ParameterInterpolator) {steps : Steps} where
+  -- so what stood still stands still
+  pub stays : (sync phaseOutput : Bool) → steps ≡ stepsFrom ps phaseOutput (s₀ .«phase_modulation») → {t : Sampled} → t ≡ sampleOf sync phaseOutput s steps → Stays phaseOutput s₀ (t .state)
+  unfolding Stays
+  stays sync phaseOutput e at-t h = rw (at-t, stores sync phaseOutput s steps, e, h)
+
+  -- they are the sample's; the fifth place is read only where the phase is put out
+  pub read : (phaseOutput : Bool) → Stays phaseOutput s₀ s → ((k : ℕ) → k < length (rooms phaseOutput) → place ps k .value ≡ getD (values (used (rooms phaseOutput) ps)) k zero32)
+      → steps ≡ stepsFrom ps phaseOutput (s₀ .«phase_modulation») → steps ≡ stepsAt phaseOutput s (values (used (rooms phaseOutput) ps))
+  unfolding Stays
+  read true k at e = rw (e, at 0 (lit< tt), at 1 (lit< tt), at 2 (lit< tt), at 3 (lit< tt), at 4 (lit< tt))
+  read false k at e = rw (e, k refl, at 0 (lit< tt), at 1 (lit< tt), at 2 (lit< tt), at 3 (lit< tt))

@@ -1,12 +1,18 @@
--- A sample of the variable shape, from its parts: what comes before the crossings, the crossings, and what comes after them. Assumes nothing.
+-- A sample of the variable shape, from its parts: what comes before the crossings, the crossings, and what comes after them; and what is left of it where
+-- there is neither a reset nor a crossing, which counts nothing. Assumes nothing.
 use mathlib.Core.Path.{_≡_, refl}
-use mathlib.Core.Bool.{Bool, true, false, _&&_, cond}
-use lib.Ieee.{Float, le}
-use Rattle.floats.specs.F32.{_⊖_, one32}
-use Rattle.floats.proofs.Bools.{cond-both}
+use mathlib.Core.Bool.{Bool, true, false, not, _&&_, cond}
+use Prim.Native.Nat.{ℕ}
+use borrow.Author.Tests.{not-true}
+use lib.Ieee.{Float, lt, le}
+use Rattle.floats.specs.F32.{_⊕_, _⊖_, one32}
+use Rattle.floats.proofs.Bools.{and-both, cond-both}
+use Rattle.block.specs.Counting.{noCounts}
+use Rattle.block.specs.Play.{Sample}
 use Rattle.edges.specs.declared.Edge.{Edge}
 use Rattle.edges.specs.Sync.{resetOf}
 use Rattle.edges.specs.Private.{Crossable}
+use Rattle.edges.proofs.CrossingLoop.{stays-high, stop-low, stop-high}
 use Rattle.edges.proofs.CrossingsReset.{cut-crossable}
 use Rattle.variable_shape.specs.declared.State.{State}
 use Rattle.variable_shape.specs.declared.steps.Steps.{Steps}
@@ -15,9 +21,9 @@ use Rattle.variable_shape.specs.declared.sample.Start.{Start}
 use Rattle.variable_shape.specs.declared.sample.End.{End}
 use Rattle.variable_shape.specs.declared.sample.Sampled.{Sampled}
 use Rattle.variable_shape.specs.Waveform.{waveformOf}
-use Rattle.variable_shape.specs.Sample.{masterStep, after, finish, resetSample, plainSample, sampleOf}
+use Rattle.variable_shape.specs.Sample.{crossed, edgeOf, masterStep, after, finish, resetSample, plainSample, sampleOf}
 use Rattle.variable_shape.specs.Private.{Ready, resetStart, plainStart, begun, crossedIf, endOf}
-use Rattle.variable_shape.proofs.Edges.{edge-crossable}
+use Rattle.variable_shape.proofs.Edges.{crosses, edge-crossable}
 
 -- what follows the start of a sample
 abbrev ended : Bool → Bool → Steps → Waveform → Start → Sampled
@@ -52,3 +58,25 @@ start-crossable sync s steps previousPw w b at-w at-b h =
     rw (at-b, at-w)
     (cond-both (λ (b : Start). Crossable (steps .pw) (b .edge)) (sync && le one32 (masterStep sync (s .«master_phase») (steps .«master_frequency»))) _ _
     (cut-crossable _ _ (edge-crossable h) refl refl) (edge-crossable h))
+
+-- the crossing loop leaves at once where a high slave has not come to 1, and a low one not to its width
+uncrossed : (w : Waveform) (e : Edge) (high : Bool) → e .high ≡ high → cond high (lt (e .phase) one32) (lt (e .phase) (w .pw)) ≡ true → crossed w e ≡ e
+uncrossed w e true h l = stop-high {x = crosses w} (stays-high (rw h) refl) 1 l
+uncrossed w e false h l = stop-low (crosses w) e 1 (rw h) l
+
+-- a sample with no reset and no crossing, from the tests as one
+module _ (sync phaseOutput : Bool) (s : State) (steps : Steps)
+    (q : (not (sync && le one32 (masterStep sync (s .«master_phase») (steps .«master_frequency»))) && cond (s .high) (lt (s .«slave_phase» ⊕ steps .«slave_frequency») one32) (lt (s .«slave_phase» ⊕ steps .«slave_frequency») (steps .pw))) ≡ true) where
+  pub sample-quiet : sampleOf sync phaseOutput s steps
+      ≡ (let w = waveformOf steps (s .«previous_pw») in
+      let e = edgeOf s (steps .«slave_frequency») in
+      finish sync phaseOutput e (after w e (masterStep sync (s .«master_phase») (steps .«master_frequency»)) (e .phase) (e .high) steps) 0 0)
+  unfolding sampleOf plainSample waveformOf
+  sample-quiet =
+      let n = and-both _ _ q in
+      rw (not-true (sync && le one32 (masterStep sync (s .«master_phase») (steps .«master_frequency»))) (n .0), uncrossed (waveformOf steps (s .«previous_pw»)) (edgeOf s (steps .«slave_frequency»)) (s .high) refl (n .1), cond-both (λ (k : ℕ). k ≡ 0) sync 0 0 refl refl)
+
+  -- nothing is counted
+  pub quiet-made : {t : Sampled} → t ≡ sampleOf sync phaseOutput s steps → _≡_ {A = Sample State} (record { state = t .state; sample = t .sample; counts = noCounts }) (record { state = t .state; sample = t .sample; counts = t .counts })
+  unfolding finish
+  quiet-made e = rw (e, sample-quiet)

@@ -14,10 +14,10 @@ use parameter_interpolator::ParameterInterpolator;
 use ranges::targets;
 use rooms::Found;
 use rooms::Room;
-use steps::Steps;
 
 mod master_phase;
 mod output;
+mod quiet;
 mod sample;
 mod steps;
 mod waveform;
@@ -221,7 +221,7 @@ fn drift_or_play(
     }
 }
 
-// Every sample of the buffer.
+// Every sample of the buffer. In most of them nothing happens, and nothing is counted: they go the short way.
 fn play(
     state: State,
     p: [ParameterInterpolator; 5],
@@ -237,23 +237,21 @@ fn play(
     let mut counts = block::none();
     let mut i = 0;
     while i < out.len() {
-        moving = rooms::advance(moving);
-        let steps = Steps {
-            master_frequency: moving[0].value,
-            slave_frequency: moving[1].value,
-            pw: moving[2].value,
-            waveshape: moving[3].value,
-            phase_modulation: steps::modulation(
-                phase_output,
-                moving[4].value,
-                state.phase_modulation,
-            ),
-        };
-        let t = sample::sample(s, steps, sync, phase_output);
-        out[i] = t.sample;
-        s = t.state;
-        counts = block::sum(counts, t.counts);
-        i += 1;
+        let next = rooms::advance(moving);
+        let steps = steps::at(next, phase_output, state.phase_modulation);
+        moving = next;
+        if quiet::is_quiet(s, steps, sync) {
+            let q = quiet::sample(s, steps, sync, phase_output);
+            out[i] = q.sample;
+            s = q.state;
+            i += 1;
+        } else {
+            let t = sample::sample(s, steps, sync, phase_output);
+            out[i] = t.sample;
+            s = t.state;
+            counts = block::sum(counts, t.counts);
+            i += 1;
+        }
     }
     Rendered {
         answer: Answer::Done,

@@ -104,7 +104,7 @@ fn edge(s: State, slave_frequency: f32) -> Edge
 }
 
 // The master's step, line 113, which it takes only with sync.
-fn master_step(sync: bool, master_phase: f32, master_frequency: f32) -> f32
+pub(crate) fn master_step(sync: bool, master_phase: f32, master_frequency: f32) -> f32
     ensures { λ r. ⌜ r ≡ masterStep sync «master_phase» «master_frequency» ⌝ }
 {
     if sync {

@@ -1,6 +1,7 @@
 // The waveform at one sample: how much of it is square and how much triangle, and the triangle's slopes. variable_shape_oscillator.rs, lines 107 to 110
 // and 214 to 234.
 ghost use mathlib.Core.Path.{_≡_};
+ghost use lib.Ieee.{Float};
 ghost use Rattle.variable_shape.specs.Waveform.{waveformOf, squareOf, naiveOf};
 use crate::steps::Steps;
 use edges::triangle;
@@ -44,4 +45,14 @@ pub(crate) fn naive(w: Waveform, phase: f32) -> f32
 {
     let saw = phase + (square(phase, w.pw) - phase) * w.square_amount;
     saw + (triangle::triangle(phase, w.pw, w.slope_up, w.slope_down) - saw) * w.triangle_amount
+}
+
+// The same from the steps, with the one slope worked out that the phase is on: the width of the sample before does not show in it.
+pub(crate) fn naive_at(steps: Steps, phase: f32) -> f32
+    ensures { λ r. ⌜ ((previousPw : Float) → r ≡ naiveOf (waveformOf steps previousPw) phase) ⌝ }
+{
+    let square_amount = floats::max(steps.waveshape - 0.5, 0.0) * 2.0;
+    let triangle_amount = floats::max(1.0 - steps.waveshape * 2.0, 0.0);
+    let saw = phase + (square(phase, steps.pw) - phase) * square_amount;
+    saw + (triangle::triangle_at(phase, steps.pw) - saw) * triangle_amount
 }
