@@ -2,6 +2,7 @@
 -- A tick is 2^-24, and 4456448 ticks are 17/64. Assumes nothing.
 use mathlib.Core.Path.{_≡_}
 use mathlib.Core.Bool.{Bool, true, false, _&&_, cond}
+use mathlib.Core.List.{List, [], _∷_}
 use Prim.Native.Nat.{_*_}
 use lib.Ieee.{Float, le}
 use Rattle.floats.specs.F32.{_⊖_, _⊗_, zero32, one32}
@@ -9,9 +10,11 @@ use Rattle.floats.proofs.Ticks.{tick, cycle}
 use Rattle.floats.proofs.Ranges.{Under, Positive}
 use Rattle.block.specs.declared.Answer.{Answer}
 use Rattle.rooms.specs.declared.Room.{Room}
-use Rattle.rooms.specs.declared.Room.the-variants.{Unused, ModulationOrGain}
+use Rattle.rooms.specs.declared.Room.the-variants.{Unused, Frequency, PulseWidth, Waveshape, ModulationOrGain}
+use Rattle.rooms.proofs.Guard.{Course}
 use Rattle.block.specs.Counting.{noCounts, oneIf}
 use Rattle.ranges.specs.Ranges.{waveshapeIn, modulationOrGainIn}
+use Rattle.ranges.specs.Targets.{clipped, clampedWidth}
 use Rattle.edges.specs.declared.Edge.{Edge}
 use Rattle.edges.specs.Sync.{resetTime, atResetOf, cutEdge}
 use Rattle.variable_shape.specs.declared.State.{State}
@@ -41,6 +44,15 @@ pub record Ready (s : State) (steps : Steps) : Type 0 where
 
 abbrev pub refused : Answer → State → Rendered
 refused answer s = record { answer = answer; state = s; counts = noCounts }
+
+-- the courses of its parameters: each goes to its target, phase modulation only where the phase is put out
+abbrev pub courses : State → Float → Float → Float → Float → Float → Bool → List Course
+courses s masterFrequency frequency pw waveshape phaseModulation phaseOutput =
+    record { room = Frequency; value = s .«master_frequency»; target = clipped masterFrequency }
+    ∷ record { room = Frequency; value = s .«slave_frequency»; target = clipped frequency }
+    ∷ record { room = PulseWidth; value = s .pw; target = clampedWidth (clipped frequency) pw }
+    ∷ record { room = Waveshape; value = s .waveshape; target = waveshape }
+    ∷ cond phaseOutput (record { room = ModulationOrGain; value = s .«phase_modulation»; target = phaseModulation } ∷ []) []
 
 -- the fifth room of the walk
 abbrev pub modulationRoom : Bool → Room

@@ -1,18 +1,21 @@
 // A waveform from triangle over saw to square, whose phase can be reset by a master: the source's oscillator/variable_shape_oscillator.rs.
 ghost use mathlib.Core.Path.{_≡_};
 ghost use mathlib.Core.Bool.{true};
+ghost use mathlib.Core.List.{[]};
 ghost use Rattle.rooms.proofs.Padding.{used};
+ghost use Rattle.rooms.proofs.Guard.{glidesOf};
 ghost use Rattle.block.specs.Calls.{run};
-ghost use Rattle.block.specs.Fit.{Fit, Playable, playedOf};
+ghost use Rattle.block.specs.Fit.{Guarded, Playable, playedOf};
 ghost use Rattle.variable_shape.specs.State.{newState, initState};
 ghost use Rattle.variable_shape.specs.Sample.{sampleAt};
-ghost use Rattle.variable_shape.specs.Block.{stateIn, parametersIn, interpolators as interpolatorsTo, rooms, renderOf, asCall};
-ghost use Rattle.variable_shape.specs.Private.{Valid, refused, modulationRoom};
+ghost use Rattle.variable_shape.specs.Block.{stateIn, parametersIn, rooms, renderOf, asCall};
+ghost use Rattle.variable_shape.specs.Private.{Valid, courses, refused, modulationRoom};
 use block::Answer;
 use block::Counts;
 use parameter_interpolator::ParameterInterpolator;
 use ranges::targets;
 use rooms::Found;
+use rooms::Glides;
 use rooms::Room;
 
 mod master_phase;
@@ -108,7 +111,7 @@ pub fn render(
         return refuse(Answer::BadParam, state);
     }
     let n = out.len() as u32;
-    let p = interpolators(
+    let moving = glides(
         state,
         master_frequency,
         frequency,
@@ -117,7 +120,7 @@ pub fn render(
         phase_modulation,
         n,
     );
-    drift_or_play(state, p, sync, phase_output, out)
+    drift_or_play(state, moving, sync, phase_output, out)
 }
 
 // 01's ranges of a state. `next_sample` may have any bits.
@@ -162,8 +165,9 @@ fn refuse(answer: Answer, state: State) -> Rendered
     }
 }
 
-// All five parameters on their way to their targets, over n samples, as the source makes them: without phase output the last place is not used.
-fn interpolators(
+// All five parameters on their way to their targets, over n samples, as the source makes them, and whether all are safe: a waveshape and phase modulation
+// always are. Without phase output the last place is not used.
+fn glides(
     s: State,
     master_frequency: f32,
     frequency: f32,
@@ -171,19 +175,25 @@ fn interpolators(
     waveshape: f32,
     phase_modulation: f32,
     n: u32,
-) -> [ParameterInterpolator; 5]
-    ensures { λ r. ⌜ r ≡ interpolatorsTo s «master_frequency» frequency pw waveshape «phase_modulation» true n ⌝ }
+) -> Glides
+    ensures { λ r. ⌜ r ≡ glidesOf n (courses s «master_frequency» frequency pw waveshape «phase_modulation» true) [] ⌝ }
 {
     let master_target = targets::clip(master_frequency);
     let slave_target = targets::clip(frequency);
     let pw_target = targets::clamp_width(slave_target, pw);
-    [
-        ParameterInterpolator::new(s.master_frequency, master_target, n),
-        ParameterInterpolator::new(s.slave_frequency, slave_target, n),
-        ParameterInterpolator::new(s.pw, pw_target, n),
-        ParameterInterpolator::new(s.waveshape, waveshape, n),
-        ParameterInterpolator::new(s.phase_modulation, phase_modulation, n),
-    ]
+    let safe = rooms::safe(Room::Frequency, s.master_frequency, master_target)
+        & rooms::safe(Room::Frequency, s.slave_frequency, slave_target)
+        & rooms::safe(Room::PulseWidth, s.pw, pw_target);
+    Glides {
+        interpolators: [
+            ParameterInterpolator::new(s.master_frequency, master_target, n),
+            ParameterInterpolator::new(s.slave_frequency, slave_target, n),
+            ParameterInterpolator::new(s.pw, pw_target, n),
+            ParameterInterpolator::new(s.waveshape, waveshape, n),
+            ParameterInterpolator::new(s.phase_modulation, phase_modulation, n),
+        ],
+        safe,
+    }
 }
 
 // Phase modulation takes steps only where the phase is put out.
@@ -200,13 +210,13 @@ fn modulation_room(phase_output: bool) -> Room
 // Drift where a step leaves its room, else the samples.
 fn drift_or_play(
     state: State,
-    p: [ParameterInterpolator; 5],
+    glides: Glides,
     sync: bool,
     phase_output: bool,
     out: &mut [f32],
 ) -> Rendered
-    requires { ⌜ Fit Valid state (now out) ⌝ }
-    ensures { λ r. ⌜ asCall r (now (out .exit)) ≡ run (sampleAt sync «phase_output») (rooms «phase_output») (used (rooms «phase_output») p) state (now (out .entry)) ⌝ }
+    requires { ⌜ Guarded Valid (rooms «phase_output») state (used (rooms «phase_output») (glides .interpolators)) (glides .safe) (now out) ⌝ }
+    ensures { λ r. ⌜ asCall r (now (out .exit)) ≡ run (sampleAt sync «phase_output») (rooms «phase_output») (used (rooms «phase_output») (glides .interpolators)) state (now (out .entry)) ⌝ }
 {
     let kept = [
         Room::Frequency,
@@ -215,7 +225,8 @@ fn drift_or_play(
         Room::Waveshape,
         modulation_room(phase_output),
     ];
-    match rooms::first_outside(p, kept, out.len() as u32) {
+    let p = glides.interpolators;
+    match rooms::find_drift(glides, kept, out.len() as u32) {
         Found::Outside(i) => refuse(Answer::Drift(i), state),
         Found::Nowhere => play(state, p, sync, phase_output, out),
     }
