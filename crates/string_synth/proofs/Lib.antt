@@ -2,6 +2,7 @@
 pub mod Registrations
 pub mod Octaves
 pub mod Segments
+pub mod Stays
 pub mod Keeping
 pub mod Calls
 pub mod Phase

@@ -15,6 +15,7 @@ use rooms::Found;
 use rooms::Room;
 use sample::Saws;
 
+mod quiet;
 mod sample;
 mod targets;
 
@@ -188,12 +189,14 @@ fn drift_or_play(state: State, p: [ParameterInterpolator; 5], out: &mut [f32]) -
     }
 }
 
-// Every sample of the buffer.
+// Every sample of the buffer. Most stay in their segment, and nothing is counted: they go the short way, with the starts of the segment's saws kept from the last
+// sample that did not.
 fn play(state: State, p: [ParameterInterpolator; 5], out: &mut [f32]) -> Rendered
     requires { ⌜ Playable Valid rooms state (used rooms p) (now out) ⌝ }
     ensures { λ r. ⌜ asCall r (now (out .exit)) ≡ playedOf sampleAt state (used rooms p) (now (out .entry)) ⌝ }
 {
     let mut s = state;
+    let mut starts = sample::starts_of(s.segment as u32);
     let mut moving = p;
     let mut counts = block::none();
     let mut i = 0;
@@ -206,11 +209,19 @@ fn play(state: State, p: [ParameterInterpolator; 5], out: &mut [f32]) -> Rendere
             saw_2_gain: moving[3].value,
             saw_1_gain: moving[4].value,
         };
-        let t = sample::sample(s, saws, out[i]);
-        out[i] = t.sample;
-        s = t.state;
-        counts = block::sum(counts, t.counts);
-        i += 1;
+        if quiet::is_quiet(s, starts, saws.frequency) {
+            let q = quiet::sample(s, starts, saws, out[i]);
+            out[i] = q.sample;
+            s = q.state;
+            i += 1;
+        } else {
+            let t = sample::sample(s, saws, out[i]);
+            out[i] = t.sample;
+            s = t.state;
+            starts = sample::starts_of(s.segment as u32);
+            counts = block::sum(counts, t.counts);
+            i += 1;
+        }
     }
     Rendered {
         answer: Answer::Done,

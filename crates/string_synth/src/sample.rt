@@ -1,6 +1,8 @@
 // One sample of the string synth, in the source's order.
 ghost use mathlib.Core.Path.{_≡_};
 ghost use Prim.Native.Nat.{_≤_};
+ghost use lib.Bits.{bitAnd};
+ghost use Rattle.floats.specs.F32.{whole32};
 ghost use Rattle.whole_part.specs.WholePart.{isWhole};
 ghost use Rattle.string_synth.specs.Sample.{lessIf, discontinuityOf, wrapPhase, wrapSegment, blepOf, softened, stayed, crossed, reachedOf, nextSample, finish as finished, sampleOf};
 use crate::State;
@@ -14,6 +16,13 @@ pub struct Saws {
     pub saw_4_gain: f32,
     pub saw_2_gain: f32,
     pub saw_1_gain: f32,
+}
+
+// The phases at which the saws of a segment start; the 8' saw, whose cycle is the whole, starts at 0.
+pub struct Starts {
+    pub saw_4: f32,
+    pub saw_2: f32,
+    pub saw_1: f32,
 }
 
 // Where a step has brought the phase: a sample in the making. Its segment is a whole part, never negative, and so unsigned.
@@ -104,7 +113,7 @@ fn soften(e: Reached, discontinuity: f32, frequency: f32) -> Reached
 }
 
 // Within a segment: this sample starts with what the last one left for it, and the next from 0.
-fn stay(s: State, phase: f32, whole: u32) -> Reached
+pub(crate) fn stay(s: State, phase: f32, whole: u32) -> Reached
     ensures { λ r. ⌜ r ≡ stayed s phase whole ⌝ }
 {
     Reached {
@@ -147,25 +156,39 @@ fn reach(s: State, saws: Saws) -> Reached
     }
 }
 
+// Where in a cycle the saws of a segment start, lines 141 to 144: the 4' saw every four segments, the 2' saw every two, and the 1' saw at each.
+pub(crate) fn starts_of(segment: u32) -> Starts
+    ensures { λ r. ⌜ r ≡ record { «saw_4» = whole32 (bitAnd segment 4); «saw_2» = whole32 (bitAnd segment 6); «saw_1» = whole32 (bitAnd segment 7) } ⌝ }
+{
+    Starts {
+        saw_4: nearest_u32_to_f32(segment & 4),
+        saw_2: nearest_u32_to_f32(segment & 6),
+        saw_1: nearest_u32_to_f32(segment & 7),
+    }
+}
+
 // What the next sample starts with, lines 141 to 144: the four saws, each about zero. The products go from the left, as the source's.
-fn next_sample(e: Reached, saws: Saws) -> f32
+fn next_sample(e: Reached, starts: Starts, saws: Saws) -> f32
+    requires { ⌜ starts ≡ record { «saw_4» = whole32 (bitAnd (e .segment) 4); «saw_2» = whole32 (bitAnd (e .segment) 6); «saw_1» = whole32 (bitAnd (e .segment) 7) } ⌝ }
     ensures { λ r. ⌜ r ≡ nextSample e saws ⌝ }
 {
     let of_8 = e.next_sample + (e.phase - 4.0) * saws.saw_8_gain * 0.125;
-    let of_4 = of_8 + (e.phase - nearest_u32_to_f32(e.segment & 4) - 2.0) * saws.saw_4_gain * 0.25;
-    let of_2 = of_4 + (e.phase - nearest_u32_to_f32(e.segment & 6) - 1.0) * saws.saw_2_gain * 0.5;
-    of_2 + (e.phase - nearest_u32_to_f32(e.segment & 7) - 0.5) * saws.saw_1_gain
+    let of_4 = of_8 + (e.phase - starts.saw_4 - 2.0) * saws.saw_4_gain * 0.25;
+    let of_2 = of_4 + (e.phase - starts.saw_2 - 1.0) * saws.saw_2_gain * 0.5;
+    of_2 + (e.phase - starts.saw_1 - 0.5) * saws.saw_1_gain
 }
 
 // The end of a sample, lines 139 to 150. It is added to what the mix buffer held.
-fn finish(e: Reached, saws: Saws, held: f32) -> Sampled
+pub(crate) fn finish(e: Reached, starts: Starts, saws: Saws, held: f32) -> Sampled
     requires { ⌜ e .segment ≤ 131072 ⌝ }
+    requires { ⌜ starts ≡ record { «saw_4» = whole32 (bitAnd (e .segment) 4); «saw_2» = whole32 (bitAnd (e .segment) 6); «saw_1» = whole32 (bitAnd (e .segment) 7) } ⌝ }
     ensures { λ r. ⌜ r ≡ finished e saws held ⌝ }
 {
     Sampled {
+        sample: held + 2.0 * e.this_sample,
         state: State {
             phase: e.phase,
-            next_sample: next_sample(e, saws),
+            next_sample: next_sample(e, starts, saws),
             segment: e.segment as i32,
             frequency: saws.frequency,
             saw_8_gain: saws.saw_8_gain,
@@ -173,7 +196,6 @@ fn finish(e: Reached, saws: Saws, held: f32) -> Sampled
             saw_2_gain: saws.saw_2_gain,
             saw_1_gain: saws.saw_1_gain,
         },
-        sample: held + 2.0 * e.this_sample,
         counts: Counts {
             cycles: e.cycles,
             rises: e.rises,
@@ -187,5 +209,6 @@ fn finish(e: Reached, saws: Saws, held: f32) -> Sampled
 pub(crate) fn sample(s: State, saws: Saws, held: f32) -> Sampled
     ensures { λ r. ⌜ r ≡ sampleOf s saws held ⌝ }
 {
-    finish(reach(s, saws), saws, held)
+    let e = reach(s, saws);
+    finish(e, starts_of(e.segment), saws, held)
 }

@@ -11,7 +11,7 @@ use Rattle.string_synth.proofs.sample.finish.Tie as tie
 
 returns : tie.Need-returns
 unfolding finish
-returns c = rw (c .before .before .next-sample .ensures, toZ-pos w32 (c .before .before .before .args .e .segment) (lt-of-le-of-lt (c .before .before .before .pre) (lit< tt))) refl
+returns c = rw (c .before .next-sample .ensures, toZ-pos w32 (c .before .before .before .args .e .segment) (lt-of-le-of-lt (c .before .before .before .pre .0) (lit< tt))) refl
 
 pub finish-spec : {M : Type 1} → statement M
 finish-spec = tie.close (tie.spec (λ c κs. search needs) (λ c. search needs) returns)

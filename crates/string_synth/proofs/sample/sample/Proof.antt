@@ -7,11 +7,11 @@ use Rattle.string_synth.proofs.sample.sample.Statement.{statement}
 use Rattle.string_synth.proofs.sample.sample.Tie as tie
 
 finish-requires : tie.Need-finish-requires
-finish-requires c κs = rw (c .reach .ensures) (reached-small _ _)
+finish-requires c κs = (rw (c .before .reach .ensures) (reached-small _ _), c .starts-of .ensures)
 
 returns : tie.Need-returns
 unfolding sampleOf
-returns c = rw (c .finish .ensures, c .before .reach .ensures) refl
+returns c = rw (c .finish .ensures, c .before .before .reach .ensures) refl
 
 pub sample-spec : {M : Type 1} → statement M
-sample-spec = tie.close (tie.spec (λ c κs. search needs) finish-requires returns)
+sample-spec = tie.close (tie.spec (λ c κs. search needs) (λ c κs. search needs) finish-requires returns)
