@@ -7,5 +7,6 @@ pub mod Keeping
 pub mod Held
 pub mod Playing
 pub mod Calls
+pub mod Courses
 pub mod Phase
 pub mod Tight

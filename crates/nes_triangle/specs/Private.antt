@@ -2,16 +2,20 @@
 -- A tick is 2^-24: 4456448 ticks are 17/64. Assumes nothing.
 use mathlib.Core.Path.{_≡_}
 use mathlib.Core.Bool.{Bool, true, not, _&&_, _||_}
+use mathlib.Core.List.{List, [], _∷_}
 use Prim.Native.Nat.{ℕ, _*_, _^_, _≤_, _<_}
 use lib.Dec.{leb}
 use lib.IntN.{ℤ, pos}
 use lib.Ieee.{Float, le}
-use Rattle.floats.specs.F32.{_⊗_, half32, four32}
+use Rattle.floats.specs.F32.{_⊗_, half32, four32, maxFrequency}
+use Rattle.floats.specs.Helpers.{minOf}
 use Rattle.floats.proofs.Ticks.{tick, cycle}
 use Rattle.floats.proofs.Ranges.{Under, Positive}
 use Rattle.block.specs.declared.Answer.{Answer}
 use Rattle.block.specs.Counting.{noCounts, oneIf}
 use Rattle.ranges.specs.Ranges.{frequencyIn}
+use Rattle.rooms.specs.declared.Room.the-variants.{Frequency}
+use Rattle.rooms.proofs.Guard.{Course}
 use Rattle.nes_triangle.specs.declared.State.{State}
 use Rattle.nes_triangle.specs.declared.Rendered.{Rendered}
 use Rattle.nes_triangle.specs.declared.depth.Depth.{Depth}
@@ -51,6 +55,10 @@ pub record Ready (d : Depth) (s : State) (frequency : Float) : Type 0 where
 pub record Passed (bits : ℕ) (s : State) : Type 0 where
   pub bits-in : BitsIn bits
   pub valid : Valid bits s
+
+-- the course of its parameter: the frequency goes to its target
+abbrev pub courses : State → Float → List Course
+courses s frequency = record { room = Frequency; value = s .frequency; target = minOf frequency maxFrequency } ∷ []
 
 abbrev pub refused : Answer → State → Rendered
 refused answer s = record { answer = answer; state = s; counts = noCounts }

@@ -1,18 +1,20 @@
 // A triangle approximated by discrete steps: the source's oscillator/nes_triangle_oscillator.rs.
 ghost use mathlib.Core.Path.{_≡_};
-ghost use mathlib.Core.List.{[], _∷_, _++_};
+ghost use mathlib.Core.List.{[], _∷_};
 ghost use Rattle.rooms.specs.Steps.{stillOne};
 ghost use Rattle.rooms.proofs.Padding.{used};
+ghost use Rattle.rooms.proofs.Guard.{glidesOf};
 ghost use Rattle.block.specs.Calls.{run};
-ghost use Rattle.block.specs.Fit.{Fit, Playable, playedOf};
+ghost use Rattle.block.specs.Fit.{Guarded, Playable, playedOf};
 ghost use Rattle.nes_triangle.specs.State.{newState, initState};
 ghost use Rattle.nes_triangle.specs.Sample.{sampleAt};
-ghost use Rattle.nes_triangle.specs.Block.{stepIn, stateIn, parametersIn, interpolators as interpolatorsTo, rooms, renderOf, asCall};
-ghost use Rattle.nes_triangle.specs.Private.{Passed, refused};
+ghost use Rattle.nes_triangle.specs.Block.{stepIn, stateIn, parametersIn, rooms, renderOf, asCall};
+ghost use Rattle.nes_triangle.specs.Private.{Passed, courses, refused};
 use block::Answer;
 use block::Counts;
 use parameter_interpolator::ParameterInterpolator;
 use rooms::Found;
+use rooms::Glides;
 use rooms::Room;
 
 mod depth;
@@ -76,7 +78,7 @@ pub fn render(state: State, frequency: f32, num_bits: u32, out: &mut [f32]) -> R
         return refuse(Answer::BadParam, state);
     }
     let n = out.len() as u32;
-    drift_or_play(state, num_bits, interpolators(state, frequency, n), out)
+    drift_or_play(state, num_bits, glides(state, frequency, n), out)
 }
 
 // 01's ranges of a state. The step's end goes by the bits of this call.
@@ -115,29 +117,28 @@ fn refuse(answer: Answer, state: State) -> Rendered
     }
 }
 
-// The frequency on its way to the target, over n samples; the other places are not used.
-fn interpolators(s: State, frequency: f32, n: u32) -> [ParameterInterpolator; 5]
-    ensures { λ r. ⌜ r ≡ interpolatorsTo s frequency n ++ stillOne ∷ stillOne ∷ stillOne ∷ stillOne ∷ [] ⌝ }
+// The frequency on its way to the target, over n samples, and whether it is safe; the other places are not used.
+fn glides(s: State, frequency: f32, n: u32) -> Glides
+    ensures { λ r. ⌜ r ≡ glidesOf n (courses s frequency) (stillOne ∷ stillOne ∷ stillOne ∷ stillOne ∷ []) ⌝ }
 {
     let target = floats::min(frequency, 0.25);
-    [
-        ParameterInterpolator::new(s.frequency, target, n),
-        rooms::still(),
-        rooms::still(),
-        rooms::still(),
-        rooms::still(),
-    ]
+    let safe = rooms::safe(Room::Frequency, s.frequency, target);
+    Glides {
+        interpolators: [
+            ParameterInterpolator::new(s.frequency, target, n),
+            rooms::still(),
+            rooms::still(),
+            rooms::still(),
+            rooms::still(),
+        ],
+        safe,
+    }
 }
 
 // Drift where a step leaves its room, else the samples.
-fn drift_or_play(
-    state: State,
-    num_bits: u32,
-    p: [ParameterInterpolator; 5],
-    out: &mut [f32],
-) -> Rendered
-    requires { ⌜ Fit (Passed «num_bits») state (now out) ⌝ }
-    ensures { λ r. ⌜ asCall r (now (out .exit)) ≡ run (sampleAt «num_bits») rooms (used rooms p) state (now (out .entry)) ⌝ }
+fn drift_or_play(state: State, num_bits: u32, glides: Glides, out: &mut [f32]) -> Rendered
+    requires { ⌜ Guarded (Passed «num_bits») rooms state (used rooms (glides .interpolators)) (glides .safe) (now out) ⌝ }
+    ensures { λ r. ⌜ asCall r (now (out .exit)) ≡ run (sampleAt «num_bits») rooms (used rooms (glides .interpolators)) state (now (out .entry)) ⌝ }
 {
     let kept = [
         Room::Frequency,
@@ -146,7 +147,8 @@ fn drift_or_play(
         Room::Unused,
         Room::Unused,
     ];
-    match rooms::first_outside(p, kept, out.len() as u32) {
+    let p = glides.interpolators;
+    match rooms::find_drift(glides, kept, out.len() as u32) {
         Found::Outside(i) => refuse(Answer::Drift(i), state),
         Found::Nowhere => play(state, num_bits, p, out),
     }

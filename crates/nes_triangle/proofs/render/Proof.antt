@@ -1,11 +1,15 @@
 -- `nes_triangle::render` meets its contract: each way out is the definition's. Assumes nothing.
-use mathlib.Core.Path.{refl, _∙_, sym, subst}
-use lib.Dec.{T}
+use mathlib.Core.Path.{refl, ap, _∙_, sym}
 use borrow.Author.Tests.{not-true, not-false, le-leb, lt-leb}
 use Rattle.block.specs.Checks.{here, later}
+use Rattle.floats.proofs.Bools.{holds}
+use Rattle.rooms.specs.declared.Glides.{Glides}
+use Rattle.block.proofs.Runs.{guarded}
 use Rattle.block.proofs.Ways.{refused-by, run-from}
 use Rattle.nes_triangle.specs.Block.{nesTriangle}
+use Rattle.nes_triangle.specs.Private.{courses}
 use Rattle.nes_triangle.proofs.Calls.{passed-of}
+use Rattle.nes_triangle.proofs.Courses.{presumed}
 use borrow.Author.Needs.{needs}
 use Rattle.nes_triangle.proofs.render.Statement.{statement}
 use Rattle.nes_triangle.proofs.render.Tie as tie
@@ -30,8 +34,12 @@ drift-or-play-requires c κs =
     let e = c .before .before in
     let p = e .before in
     let t = p .before .before in
-    let g = t .before .before .before .good .0 in
-    record { short = t .before .if1 .left; valid = passed-of _ _ _ (subst T (sym (g .1 .1 .0 .1)) tt, tt) (sym (t .state-in .ensures) ∙ not-false _ (p .before .if2 .left)) (sym (p .parameters-in .ensures) ∙ not-false _ (e .if3 .left)) }
+    let a = t .before .before .before .args in
+    let g = t .before .before .before .good in
+    let s = g .0 .1 .1 in
+    let parameters = sym (p .parameters-in .ensures) ∙ not-false _ (e .if3 .left) in
+    let v = passed-of _ _ _ (holds (s .0 .1), tt) (sym (t .state-in .ensures) ∙ not-false _ (p .before .if2 .left)) parameters in
+    guarded (record { short = t .before .if1 .left; valid = v }) (courses (a .state) (a .frequency)) (presumed _ _ _ (holds (s .1 .1 .1 .1 .0 .1)) (holds (g .1 .0 .1)) v parameters) refl _ (c .before .glides .ensures)
 
 returns-4 : tie.Need-returns-4
 returns-4 c =
@@ -41,7 +49,7 @@ returns-4 c =
     let p = e .before in
     let t = p .before .before in
     run-from nesTriangle _ _ refl (le-leb _ _ (t .before .if1 .left), (sym (t .state-in .ensures) ∙ not-false _ (p .before .if2 .left), (sym (p .parameters-in .ensures) ∙ not-false _ (e .if3 .left), tt)))
-    _ (n .interpolators .ensures) (d .drift-or-play .ensures)
+    _ (ap (λ (g : Glides). g .interpolators) (n .glides .ensures)) (d .drift-or-play .ensures)
 
 pub render-spec : {M : Type 1} → statement M
 render-spec =
