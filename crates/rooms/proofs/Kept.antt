@@ -74,7 +74,7 @@ pub widest-at : At widest (16773120 * tick)
 unfolding tick fits ofBits
 widest-at = record { fit = tt; reads = refl }
 
-twelve-at : At twelve32 (12 * cycle)
+pub twelve-at : At twelve32 (12 * cycle)
 unfolding tick fits ofBits
 twelve-at = record { fit = tt; reads = refl }
 
@@ -97,13 +97,13 @@ module _ {low high x : Float} {L H : ℕ} (A : Is low 0 L) (C : Is high H 0) whe
         low = omega (arith, leb-true (0 + v .1) (v .0 + L) (sym (le-is A (v .2)) ∙ p .0));
       }
 
-  of-from : From x L H → within low high x ≡ true
+  pub of-from : From x L H → within low high x ≡ true
   of-from i = rw (le-is A (i .is) ∙ le-leb (0 + i .w) (i .u + L) (omega (arith, i .low)), le-is (i .is) C ∙ le-leb (i .u + 0) (H + i .w) (omega (arith, i .high)))
 
 minus-1 : Is (neg one32) 0 cycle
 minus-1 = neg-is (is-at one-at)
 
-minus-8 : Is (neg eight32) 0 (8 * cycle)
+pub minus-8 : Is (neg eight32) 0 (8 * cycle)
 minus-8 = neg-is (is-at eight-at)
 
 minus-16 : Is (neg sixteen32) 0 (16 * cycle)

@@ -5,6 +5,8 @@ pub mod Segments
 pub mod Stays
 pub mod Keeping
 pub mod Calls
+pub mod Gains
+pub mod Courses
 pub mod Phase
 pub mod Tight
 pub mod Shifts

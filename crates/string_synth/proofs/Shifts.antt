@@ -82,12 +82,15 @@ module _ (f : Float) (n : ℕ) (p : At f n) (top : n ≤ cycle) where
   at-1 : At (x8 ⊗ half32 ⊗ half32 ⊗ half32) n
   at-1 = halve (at-even p) (small n n top (omega arith)) (subst (At (x8 ⊗ half32 ⊗ half32)) (omega arith) at-2)
 
-  -- the loop ends at r, by its own test, however many turns it may make
+  -- the loop ends at r, by its own test, however many turns it may make, and no lower than f
   pub record Ends : Type 0 where
     pub r : Octave
     pub same : (j : ℕ) → halved (suc (suc (suc j))) (octave x8 0) ≡ r
     pub most : r .shift ≤ 6
     pub low : le (r .frequency) half32 ≡ true
+    pub size : ℕ
+    pub at : At (r .frequency) size
+    pub least : n ≤ size
 
   pub loop-ends : n ≤ 8388608 * tick → Ends
   loop-ends l = none (lt half32 x8) refl
@@ -98,21 +101,24 @@ module _ (f : Float) (n : ℕ) (p : At f n) (top : n ≤ cycle) where
           ∙ stops j (octave (x8 ⊗ half32 ⊗ half32 ⊗ half32) 6) (lt-at half-at at-1 ∙ le-ltb (8388608 * tick) n l)
 
       two : lt half32 x8 ≡ true → lt half32 (x8 ⊗ half32) ≡ true → (b : Bool) → lt half32 (x8 ⊗ half32 ⊗ half32) ≡ b → Ends
-      two h i true k = record { r = octave (x8 ⊗ half32 ⊗ half32 ⊗ half32) 6; same = λ j. three j h i k; most = omega arith; low = passes-le at-1 half-at l }
+      two h i true k = record { r = octave (x8 ⊗ half32 ⊗ half32 ⊗ half32) 6; same = λ j. three j h i k; most = omega arith; low = passes-le at-1 half-at l; size = n; at = at-1; least = omega arith }
       two h i false k = record {
         r = octave (x8 ⊗ half32 ⊗ half32) 4;
         same = λ j. turns (suc (suc j)) (octave x8 0) h ∙ turns (suc j) (octave (x8 ⊗ half32) 2) i ∙ stops (suc j) (octave (x8 ⊗ half32 ⊗ half32) 4) k;
         most = omega arith;
         low = low-enough at-2 k;
+        size = n * 2;
+        at = at-2;
+        least = omega arith;
       }
 
       one : lt half32 x8 ≡ true → (b : Bool) → lt half32 (x8 ⊗ half32) ≡ b → Ends
       one h true i = two h i (lt half32 (x8 ⊗ half32 ⊗ half32)) refl
-      one h false i = record { r = octave (x8 ⊗ half32) 2; same = λ j. turns (suc (suc j)) (octave x8 0) h ∙ stops (suc (suc j)) (octave (x8 ⊗ half32) 2) i; most = omega arith; low = low-enough at-4 i }
+      one h false i = record { r = octave (x8 ⊗ half32) 2; same = λ j. turns (suc (suc j)) (octave x8 0) h ∙ stops (suc (suc j)) (octave (x8 ⊗ half32) 2) i; most = omega arith; low = low-enough at-4 i; size = n * 4; at = at-4; least = omega arith }
 
       none : (b : Bool) → lt half32 x8 ≡ b → Ends
       none true h = one h (lt half32 (x8 ⊗ half32)) refl
-      none false h = record { r = octave x8 0; same = λ j. stops (suc (suc (suc j))) (octave x8 0) h; most = omega arith; low = low-enough at-8 h }
+      none false h = record { r = octave x8 0; same = λ j. stops (suc (suc (suc j))) (octave x8 0) h; most = omega arith; low = low-enough at-8 h; size = n * 8; at = at-8; least = omega arith }
 
   pub eight : 8388608 * tick < n → shiftOf f ≡ 8
   unfolding halved

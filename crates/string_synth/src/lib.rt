@@ -1,17 +1,20 @@
 // A mixture of saws and squares in the style of divide-down organs: the source's oscillator/string_synth_oscillator.rs.
 ghost use mathlib.Core.Path.{_≡_};
 ghost use mathlib.Core.Bool.{_&&_};
+ghost use mathlib.Core.List.{[]};
 ghost use Rattle.rooms.proofs.Padding.{used};
+ghost use Rattle.rooms.proofs.Guard.{glidesOf};
 ghost use Rattle.block.specs.Calls.{run};
-ghost use Rattle.block.specs.Fit.{Fit, Playable, playedOf};
+ghost use Rattle.block.specs.Fit.{Guarded, Playable, playedOf};
 ghost use Rattle.string_synth.specs.State.{newState, initState};
 ghost use Rattle.string_synth.specs.Sample.{sampleAt};
-ghost use Rattle.string_synth.specs.Block.{stringPhaseIn, segmentIn, gainsIn, stateIn, registrationIn, parametersIn, interpolators as interpolatorsTo, rooms, renderOf, asCall};
-ghost use Rattle.string_synth.specs.Private.{Valid, refused};
+ghost use Rattle.string_synth.specs.Block.{stringPhaseIn, segmentIn, gainsIn, stateIn, registrationIn, parametersIn, rooms, renderOf, asCall};
+ghost use Rattle.string_synth.specs.Private.{Valid, courses, refused};
 use block::Answer;
 use block::Counts;
 use parameter_interpolator::ParameterInterpolator;
 use rooms::Found;
+use rooms::Glides;
 use rooms::Room;
 use sample::Saws;
 
@@ -98,7 +101,7 @@ pub fn render(
     }
     let n = out.len() as u32;
     let to = targets::targets(frequency, registration, gain);
-    drift_or_play(state, interpolators(state, to, n), out)
+    drift_or_play(state, glides(state, to, n), out)
 }
 
 // 01's ranges of a state.
@@ -158,23 +161,27 @@ fn refuse(answer: Answer, state: State) -> Rendered
     }
 }
 
-// The frequency and the four gains on their way to the targets, over n samples: every place is used.
-fn interpolators(s: State, to: Saws, n: u32) -> [ParameterInterpolator; 5]
-    ensures { λ r. ⌜ r ≡ interpolatorsTo s to n ⌝ }
+// The frequency and the four gains on their way to the targets, over n samples, and whether all are safe: a gain always is. Every place is used.
+fn glides(s: State, to: Saws, n: u32) -> Glides
+    ensures { λ r. ⌜ r ≡ glidesOf n (courses s to) [] ⌝ }
 {
-    [
-        ParameterInterpolator::new(s.frequency, to.frequency, n),
-        ParameterInterpolator::new(s.saw_8_gain, to.saw_8_gain, n),
-        ParameterInterpolator::new(s.saw_4_gain, to.saw_4_gain, n),
-        ParameterInterpolator::new(s.saw_2_gain, to.saw_2_gain, n),
-        ParameterInterpolator::new(s.saw_1_gain, to.saw_1_gain, n),
-    ]
+    let safe = rooms::safe(Room::StringFrequency, s.frequency, to.frequency);
+    Glides {
+        interpolators: [
+            ParameterInterpolator::new(s.frequency, to.frequency, n),
+            ParameterInterpolator::new(s.saw_8_gain, to.saw_8_gain, n),
+            ParameterInterpolator::new(s.saw_4_gain, to.saw_4_gain, n),
+            ParameterInterpolator::new(s.saw_2_gain, to.saw_2_gain, n),
+            ParameterInterpolator::new(s.saw_1_gain, to.saw_1_gain, n),
+        ],
+        safe,
+    }
 }
 
 // Drift where a step leaves its room, else the samples.
-fn drift_or_play(state: State, p: [ParameterInterpolator; 5], out: &mut [f32]) -> Rendered
-    requires { ⌜ Fit Valid state (now out) ⌝ }
-    ensures { λ r. ⌜ asCall r (now (out .exit)) ≡ run sampleAt rooms (used rooms p) state (now (out .entry)) ⌝ }
+fn drift_or_play(state: State, glides: Glides, out: &mut [f32]) -> Rendered
+    requires { ⌜ Guarded Valid rooms state (used rooms (glides .interpolators)) (glides .safe) (now out) ⌝ }
+    ensures { λ r. ⌜ asCall r (now (out .exit)) ≡ run sampleAt rooms (used rooms (glides .interpolators)) state (now (out .entry)) ⌝ }
 {
     let kept = [
         Room::StringFrequency,
@@ -183,7 +190,8 @@ fn drift_or_play(state: State, p: [ParameterInterpolator; 5], out: &mut [f32]) -
         Room::ModulationOrGain,
         Room::ModulationOrGain,
     ];
-    match rooms::first_outside(p, kept, out.len() as u32) {
+    let p = glides.interpolators;
+    match rooms::find_drift(glides, kept, out.len() as u32) {
         Found::Outside(i) => refuse(Answer::Drift(i), state),
         Found::Nowhere => play(state, p, out),
     }

@@ -1,13 +1,16 @@
 -- `string_synth::render` meets its contract: each way out is the definition's. Assumes nothing.
-use mathlib.Core.Path.{refl, _∙_, sym, ap, subst}
+use mathlib.Core.Path.{refl, _∙_, sym, ap}
 use mathlib.Core.Bool.{not}
 use mathlib.Core.List.{[]}
-use lib.Dec.{T}
 use borrow.Author.Tests.{not-true, not-false, le-leb, lt-leb, eq-eqb, ne-eqb}
 use Rattle.block.specs.Checks.{here, later}
+use Rattle.floats.proofs.Bools.{holds}
+use Rattle.block.proofs.Runs.{guarded}
 use Rattle.block.proofs.Ways.{refused-by, run-from}
 use Rattle.string_synth.specs.Block.{stringSynth}
+use Rattle.string_synth.specs.Private.{courses}
 use Rattle.string_synth.proofs.Calls.{valid-of}
+use Rattle.string_synth.proofs.Courses.{presumed}
 use borrow.Author.Needs.{needs}
 use Rattle.string_synth.proofs.render.Statement.{statement}
 use Rattle.string_synth.proofs.render.Tie as tie
@@ -41,11 +44,21 @@ returns-5 c =
 
 drift-or-play-requires : tie.Need-drift-or-play-requires
 drift-or-play-requires c κs =
-    let e = c .before .before .before in
-    let t = e .before .before .before .before in
+    let m = c .before in
+    let to = m .before in
+    let h = to .before in
+    let e = h .before in
+    let p = e .before in
+    let t = p .before .before in
     let l = t .before .before in
-    let g = l .before .before .before .good .0 in
-    record { short = l .if1 .left; valid = valid-of _ (subst T (sym (g .1 .1 .0 .1)) tt, tt) (sym (t .state-in .ensures) ∙ not-false _ (e .before .before .before .if3 .left)) }
+    let k = l .before .before in
+    let g = k .before .good in
+    let s = g .0 .1 .1 in
+    let v = valid-of _ (holds (s .0 .1), tt) (sym (t .state-in .ensures) ∙ not-false _ (p .before .if3 .left)) in
+    guarded (record { short = l .if1 .left; valid = v }) (courses (k .before .args .state) (to .targets .result))
+    (presumed _ _ _ (holds (g .1 .0 .1)) (k .shared-slice-known .given) (holds (g .1 .1 .1 .0 .1)) (t .before .if2 .left) (sym (p .parameters-in .ensures) ∙ not-false _ (e .if4 .left)) (h .if5 .left) _ _
+    (holds (s .1 .1 .1 .0 .1), (holds (s .1 .1 .1 .1 .0 .1), (holds (s .1 .1 .1 .1 .1 .0 .1), (holds (s .1 .1 .1 .1 .1 .1 .0 .1), (holds (s .1 .1 .1 .1 .1 .1 .1 .0 .1), tt))))) v (to .targets .ensures))
+    refl _ (m .glides .ensures)
 
 returns-6 : tie.Need-returns-6
 returns-6 c =
@@ -57,7 +70,7 @@ returns-6 c =
     let p = e .before in
     let t = p .before .before in
     run-from stringSynth _ _ refl (le-leb _ _ (t .before .before .if1 .left), (eq-eqb _ _ (t .before .if2 .left), (sym (t .state-in .ensures) ∙ not-false _ (p .before .if3 .left), (sym (p .parameters-in .ensures) ∙ not-false _ (e .if4 .left), (ap not (h .if5 .left), tt)))))
-    [] (rw (m .interpolators .ensures, to .targets .ensures)) (d .drift-or-play .ensures)
+    [] (rw (m .glides .ensures, to .targets .ensures)) (d .drift-or-play .ensures)
 
 pub render-spec : {M : Type 1} → statement M
 render-spec =
