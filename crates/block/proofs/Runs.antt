@@ -55,18 +55,3 @@ module _ {S : Type 0} {Ok : S → Type 0} (rooms : List Room) (k : ℕ) (ps : Li
 
   pub finds-playable : found ≡ Nowhere → Playable Ok rooms s (used rooms ps) xs
   finds-playable h = record { fit = g .fit; inside = sym same ∙ h }
-
--- as the walk tells it: for oscillators that always walk
-module _ (rooms : List Room) (k : ℕ) (ps : List ParameterInterpolator) (xs : List Float) {found : Found} (walked : found ≡ firstOutside (rooms ++ unused k) (stepsOf (length xs) ps)) where
-  here : found ≡ firstOutside rooms (stepsOf (length xs) (used rooms ps))
-  here = walked ∙ walk-used (length xs) rooms k ps
-
-  module _ {S : Type 0} (make : S → List Float → Float → Sample S) (s : S) where
-    pub found-drift : {i : ℕ} → found ≡ Outside i → refusal 6 i s xs ≡ run make rooms (used rooms ps) s xs
-    found-drift {i} h = sym (run-drift make rooms (used rooms ps) s xs i (sym here ∙ h))
-
-    pub found-done : found ≡ Nowhere → playedOf make s (used rooms ps) xs ≡ run make rooms (used rooms ps) s xs
-    found-done h = sym (run-done make rooms (used rooms ps) s xs (sym here ∙ h))
-
-  pub found-playable : {S : Type 0} {s : S} {Ok : S → Type 0} → found ≡ Nowhere → Fit Ok s xs → Playable Ok rooms s (used rooms ps) xs
-  found-playable h f = record { fit = f; inside = sym here ∙ h }

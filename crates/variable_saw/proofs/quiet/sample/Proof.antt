@@ -8,7 +8,10 @@ use Rattle.variable_saw.proofs.quiet.sample.Tie as tie
 
 returns : tie.Need-returns
 unfolding finish
-returns c = rw (c .before .before .naive-sample .ensures, c .before .put-out .ensures, c .none .ensures) (sym (sample-quiet _ _ _ _ (c .before .before .before .before .pre)))
+returns c =
+    let n = c .before .before in
+    let p = n .before .before .args in
+    rw (n .naive-sample .ensures, c .before .put-out .ensures, c .none .ensures) (sym (sample-quiet (p .s) (p .frequency) (p .pw) (p .waveshape) (n .before .before .pre)))
 
 pub sample-spec : {M : Type 1} → statement M
 sample-spec = tie.close (tie.spec (λ c κs. search needs) (λ c κs. search needs) (λ c κs. search needs) returns)

@@ -13,7 +13,7 @@ returns c =
     let o = n .before in
     let m = o .before .before .before in
     let p = m .before .args in
-    rw (n .naive-at .ensures (p .s .«previous_pw»), o .output .ensures, m .master-step .ensures, c .none .ensures) (sym (sample-quiet _ _ _ _ (m .before .pre)))
+    rw (n .naive-at .ensures (p .s .«previous_pw»), o .output .ensures, m .master-step .ensures, c .none .ensures) (sym (sample-quiet (p .sync) (p .phase-output) (p .s) (p .steps) (m .before .pre)))
 
 pub sample-spec : {M : Type 1} → statement M
 sample-spec = tie.close (tie.spec (λ c κs. search needs) (λ c κs. search needs) (λ c κs. search needs) (λ c κs. search needs) returns)
