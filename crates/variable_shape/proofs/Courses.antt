@@ -1,15 +1,14 @@
 -- The variable shape's parameters are as the guard presumes them: of a valid state, and of parameters that passed their test, the targets of the frequencies and of the width are
 -- 2 ^ -24 or more. Phase modulation is one of them where the phase is put out. Assumes nothing.
-use mathlib.Core.Path.{_≡_, refl, _∙_}
+use mathlib.Core.Path.{_≡_, refl}
 use mathlib.Core.Bool.{Bool, true, false, cond}
-use mathlib.Core.List.{List, [], _∷_}
+use mathlib.Core.List.{[], _∷_}
 use Prim.Native.Nat.{ℕ}
 use lib.Dec.{T}
 use lib.Ieee.{Float, binary32, le, neg, fits, ofBits}
 use Rattle.floats.specs.F32.{eight32}
 use Rattle.floats.proofs.Bools.{and-both}
 use Rattle.floats.proofs.Order.{le-trans}
-use Rattle.parameter_interpolator.specs.declared.ParameterInterpolator.{ParameterInterpolator}
 use Rattle.parameter_interpolator.specs.Interpolator.{newInterpolator}
 use Rattle.ranges.specs.Ranges.{within, allOf}
 use Rattle.ranges.specs.Targets.{clipped}
