@@ -18,6 +18,7 @@ struct Way {
 const LOWEST: f32 = 0.000001;
 const LONGEST: u16 = 4096;
 const TWO_TO_19: f32 = 524_288.0;
+const TWO_TO_24: f32 = 16_777_216.0;
 const TWO_TO_26: f32 = 67_108_864.0;
 
 /// The last step is below 0; the first of these is the request's figure.
@@ -73,8 +74,8 @@ pub fn drifts(kind: u8) -> Vec<Record> {
         return records;
     };
     for way in [WIDTH_ON_ZERO, WIDTH_ON_ONE] {
-        records.push(width_drifts(kind, width, &way, way.length));
-        records.push(width_drifts(kind, width, &way, 2));
+        records.push(width_drifts(kind, width, &way, way.length, 1.0 / TWO_TO_19));
+        records.push(width_drifts(kind, width, &way, 2, 1.0 / TWO_TO_19));
     }
     records
 }
@@ -88,20 +89,27 @@ fn width_word(kind: u8) -> Option<usize> {
     }
 }
 
-/// For each block length a call that drifts, where one is found in so many tries: as a rule it does
-/// so at its last step, so that every index comes up at which rounding can do it. Short blocks do
-/// not round often enough: in them only a width that stays at 1 drifts, at the first step, and that
-/// is among the fixed calls.
+/// For each block length a call that drifts, where one is found in so many tries, mostly at its last
+/// step; and of a width one that does so at its last step, so that every index comes up from 68 on.
+/// Shorter blocks do not round often enough: in them a width that stays at 1 drifts, at the first
+/// step, and that is among the fixed calls.
 pub fn everywhere(kind: u8, tries: u64, random: &mut Random) -> Vec<Record> {
     let of_length = |length: u16| {
         (0..tries)
             .map(|_| far_way(kind, length, random))
-            .find(|record| {
-                let outcome = model::call(record, &mut buffer(record)).unwrap();
-                outcome.answer == 6 && outcome.index > 0
-            })
+            .find(drifts_on_its_way)
     };
-    (1..=LONGEST).filter_map(of_length).collect()
+    let mut records: Vec<Record> = (1..=LONGEST).filter_map(of_length).collect();
+    if let Some(word) = width_word(kind) {
+        let up = |length| width_drifts(kind, word, &up_to_one(length), length, LOWEST);
+        records.extend((1..=LONGEST).map(up).filter(drifts_on_its_way));
+    }
+    records
+}
+
+fn drifts_on_its_way(record: &Record) -> bool {
+    let outcome = model::call(record, &mut buffer(record)).unwrap();
+    outcome.answer == 6 && outcome.index > 0
 }
 
 /// A long way down to the lowest target there is, of a frequency or a width; or of a width up to
@@ -109,8 +117,7 @@ pub fn everywhere(kind: u8, tries: u64, random: &mut Random) -> Vec<Record> {
 fn far_way(kind: u8, length: u16, random: &mut Random) -> Record {
     if let (Some(word), true) = (width_word(kind), random.one_in(2)) {
         let (value, target) = match random.below(8) {
-            0 => (1.0, 1.0),
-            1..4 => (random.between(0.0, 1.0), 1.0),
+            0..4 => (random.between(0.0, 1.0), 1.0),
             _ => (random.between(0.5, 1.0), 0.0),
         };
         let way = Way {
@@ -118,7 +125,7 @@ fn far_way(kind: u8, length: u16, random: &mut Random) -> Record {
             target,
             length,
         };
-        return width_drifts(kind, word, &way, length);
+        return width_drifts(kind, word, &way, length, LOWEST);
     }
     let top = if kind == STRING {
         17.0 / 32.0
@@ -132,6 +139,16 @@ fn far_way(kind: u8, length: u16, random: &mut Random) -> Record {
     };
     let (word, _) = random.pick(frequencies(kind));
     frequency_drifts(kind, word, &way, length)
+}
+
+/// A width on its way to the highest target, 34 last places below 1, by steps of more than half of a
+/// last place. Each is rounded up to a whole one, so that the last step comes to 1.
+fn up_to_one(length: u16) -> Way {
+    Way {
+        value: 1.0 - f32::from(length) / TWO_TO_24,
+        target: 1.0,
+        length,
+    }
 }
 
 /// One interpolated frequency goes that way, and the others of the kind a harmless one.
@@ -154,13 +171,14 @@ fn frequency_drifts(kind: u8, word: usize, way: &Way, length: u16) -> Record {
     record
 }
 
-/// The width goes that way under steady frequencies, so low that it may go as far as it likes.
-fn width_drifts(kind: u8, word: usize, way: &Way, length: u16) -> Record {
+/// The width goes that way under steady frequencies, so low that it may go nearly as far as it
+/// likes.
+fn width_drifts(kind: u8, word: usize, way: &Way, length: u16, steady: f32) -> Record {
     let mut record = plain(kind);
     record.set_length(length);
     for &(other, setting) in frequencies(kind) {
-        record.set_float(state_at(other), 1.0 / TWO_TO_19);
-        record.set_float(setting, 1.0 / TWO_TO_19);
+        record.set_float(state_at(other), steady);
+        record.set_float(setting, steady);
     }
     record.set_float(state_at(word), way.value);
     record.set_float(WIDTH_OR_SHAPE_AT, way.target);
