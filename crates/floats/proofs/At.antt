@@ -7,9 +7,9 @@ use native.Mathlib.Omega.{arith}
 use borrow.Author.Tests.{leb-true}
 use mathlib.Core.Bool.{true, false}
 use lib.IntN.{pos, natAbs, +ℤ-idr}
-use lib.Dec.{T, ltb, leb, eqb, lit<}
+use lib.Dec.{T, ltb, leb, lit<}
 use lib.Pow.{pow-pos}
-use lib.Ieee.{Float, nan, inf, fin, binary32, up, down, lt, le, eq, fits, ofBits}
+use lib.Ieee.{Float, nan, inf, fin, binary32, up, down, lt, le, fits, ofBits}
 use lib.Ieee.Fits.{up-pos, down-pos}
 use lib.Ieee.Scale.{finite}
 use Rattle.floats.specs.F32.{_⊕_, _⊖_, _⊗_, _⊘_, zero32}
@@ -17,7 +17,7 @@ use Rattle.floats.specs.Units.{units}
 use Rattle.floats.proofs.Rounding.{rnd, rnd-zero, rnd-exact}
 use Rattle.floats.proofs.Values.{Value}
 use Rattle.floats.proofs.Held.{held}
-use Rattle.floats.proofs.Signed.{Is, add-is, sub-is, mul-is, div-is, lt-is, eq-is, le-is, alone, is-units, is-of}
+use Rattle.floats.proofs.Signed.{Is, add-is, sub-is, mul-is, div-is, lt-is, le-is, alone, is-units, is-of}
 pub use Rattle.floats.proofs.Signed.{huge}
 
 -- x is finite, not below zero, and n units
@@ -91,9 +91,6 @@ module _ {x y : Float} {a b : ℕ} (p : At x a) (q : At y b) where
 
   pub le-at : le x y ≡ leb a b
   le-at = simp add-zero at (le-is (is-at p) (is-at q))
-
-  pub eq-at : eq x y ≡ eqb a b
-  eq-at = simp add-zero at (eq-is (is-at p) (is-at q))
 
 -- ---- the number is the value's
 pub at-units : {x : Float} {n : ℕ} → At x n → units x ≡ pos n

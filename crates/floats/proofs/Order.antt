@@ -144,14 +144,6 @@ module _ (x y z : Float) where
       let p = passed (lt→le x y h) k in
       p .xz .lt-is ∙ lt-ltb (p .i) (p .k) (omega (arith, passed-lt (p .xy) h, passed-le (p .yz) k))
 
-  pub le-lt-trans : le x y ≡ true → lt y z ≡ true → lt x z ≡ true
-  le-lt-trans h k =
-      let p = passed h (lt→le y z k) in
-      p .xz .lt-is ∙ lt-ltb (p .i) (p .k) (omega (arith, passed-le (p .xy) h, passed-lt (p .yz) k))
-
-  pub lt-trans : lt x y ≡ true → lt y z ≡ true → lt x z ≡ true
-  lt-trans h k = lt-le-trans h (lt→le y z k)
-
 pub lt-irrefl : (x : Float) → lt x x ≡ false
 unfolding lt
 lt-irrefl nan = refl

@@ -1,4 +1,4 @@
--- The laws of rooms and of the walk, and of the tests that spare it.
+-- The laws of rooms and of the walk, of the tests that spare it, and of a session that needs neither.
 pub mod RangeLaws
 pub mod Walks
 pub mod Places
@@ -6,4 +6,5 @@ pub mod Padding
 pub mod Nowhere
 pub mod Kept
 pub mod Guard
+pub mod Session
 pub mod Tight
