@@ -10,7 +10,7 @@ pub(crate) fn put_variable_shape(
 ) -> usize {
     record::read_state(record, words);
     let mut result = [0u32; 6];
-    navuloqu::variable_shape::navuloqu_variable_shape_render(
+    let answer = navuloqu::variable_shape::navuloqu_1_variable_shape_render(
         words,
         record::float_at(record, 12),
         record::float_at(record, 8),
@@ -22,7 +22,7 @@ pub(crate) fn put_variable_shape(
         out,
         &mut result,
     );
-    put_outcome(text, &result, words, out)
+    put_outcome(text, answer, &result, words, out)
 }
 
 // The variable saw's, of seven words.
@@ -34,7 +34,7 @@ pub(crate) fn put_variable_saw(
 ) -> usize {
     record::read_state(record, words);
     let mut result = [0u32; 6];
-    navuloqu::variable_saw::navuloqu_variable_saw_render(
+    let answer = navuloqu::variable_saw::navuloqu_1_variable_saw_render(
         words,
         record::float_at(record, 8),
         record::float_at(record, 16),
@@ -42,7 +42,7 @@ pub(crate) fn put_variable_saw(
         out,
         &mut result,
     );
-    put_outcome(text, &result, words, out)
+    put_outcome(text, answer, &result, words, out)
 }
 
 // The super square's, of six words.
@@ -54,14 +54,14 @@ pub(crate) fn put_super_square(
 ) -> usize {
     record::read_state(record, words);
     let mut result = [0u32; 6];
-    navuloqu::super_square::navuloqu_super_square_render(
+    let answer = navuloqu::super_square::navuloqu_1_super_square_render(
         words,
         record::float_at(record, 8),
         record::float_at(record, 16),
         out,
         &mut result,
     );
-    put_outcome(text, &result, words, out)
+    put_outcome(text, answer, &result, words, out)
 }
 
 // The NES triangle's, of five words.
@@ -73,14 +73,14 @@ pub(crate) fn put_nes_triangle(
 ) -> usize {
     record::read_state(record, words);
     let mut result = [0u32; 6];
-    navuloqu::nes_triangle::navuloqu_nes_triangle_render(
+    let answer = navuloqu::nes_triangle::navuloqu_1_nes_triangle_render(
         words,
         record::float_at(record, 8),
         testing::word_at(record, 4),
         out,
         &mut result,
     );
-    put_outcome(text, &result, words, out)
+    put_outcome(text, answer, &result, words, out)
 }
 
 // The string's, of eight words; the buffer's old samples are part of its sum.
@@ -94,7 +94,7 @@ pub(crate) fn put_string_synth(
     let registration = record::registration(record);
     let entries = record::entries(record);
     let mut result = [0u32; 6];
-    navuloqu::string_synth::navuloqu_string_synth_render(
+    let answer = navuloqu::string_synth::navuloqu_1_string_synth_render(
         words,
         record::float_at(record, 8),
         &registration[0..entries],
@@ -102,22 +102,37 @@ pub(crate) fn put_string_synth(
         out,
         &mut result,
     );
-    put_outcome(text, &result, words, out)
+    put_outcome(text, answer, &result, words, out)
 }
 
-// What a call left: the result in decimal, then the state's words and the checksum in hexadecimal.
-fn put_outcome(text: &mut [u8], result: &[u32; 6], words: &[u32], out: &[f32]) -> usize {
-    let numbers = put_result(text, result);
+// What a call gave and left: the result in decimal, then the state's words and the checksum in hexadecimal.
+fn put_outcome(
+    text: &mut [u8],
+    returned: u32,
+    result: &[u32; 6],
+    words: &[u32],
+    out: &[f32],
+) -> usize {
+    let numbers = put_result(text, returned, result);
     let state = testing::put_words(text, numbers, words, b' ');
     testing::put_word(text, state, testing::checksum(out), b'\n')
 }
 
 // The six words of a result, in decimal.
-fn put_result(text: &mut [u8], result: &[u32; 6]) -> usize {
-    let answer = testing::put_number(text, 0, result[0], b' ');
+fn put_result(text: &mut [u8], returned: u32, result: &[u32; 6]) -> usize {
+    let answer = put_answer(text, returned, result[0]);
     let index = testing::put_number(text, answer, result[1], b' ');
     let cycles = testing::put_number(text, index, result[2], b' ');
     let rises = testing::put_number(text, cycles, result[3], b' ');
     let falls = testing::put_number(text, rises, result[4], b' ');
     testing::put_number(text, falls, result[5], b' ')
+}
+
+// The answer, which is returned and is the result's first word too: where the two differ there is no such number.
+fn put_answer(text: &mut [u8], returned: u32, told: u32) -> usize {
+    if returned == told {
+        testing::put_number(text, 0, returned, b' ')
+    } else {
+        testing::put(text, 0, b"? ")
+    }
 }

@@ -53,12 +53,12 @@ pub fn render(
     num_bits: u32,
     out: &mut [f32],
     result: &mut [u32; 6],
-)
-    ensures { λ r. ⌜ record { words = now (words .exit); result = now (result .exit); samples = now (out .exit) } ≡ renderFace (now (words .entry)) frequency «num_bits» (now (out .entry)) ⌝ }
+) -> u32
+    ensures { λ r. ⌜ record { answer = r; words = now (words .exit); result = now (result .exit); samples = now (out .exit) } ≡ renderFace (now (words .entry)) frequency «num_bits» (now (out .entry)) ⌝ }
 {
     if words::no_bool(words[3]) {
         *result = words::no_state(out.len());
-        return;
+        return result[0];
     }
     let r = nes_triangle::render(state_of(*words), frequency, num_bits, out);
     let answer = r.answer;
@@ -66,4 +66,5 @@ pub fn render(
     let state = r.state;
     *result = words::result_of(answer, counts);
     store(words, words::stores(answer, out.len()), words_of(state));
+    result[0]
 }

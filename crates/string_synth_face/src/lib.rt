@@ -60,8 +60,8 @@ pub fn render(
     gain: f32,
     out: &mut [f32],
     result: &mut [u32; 6],
-)
-    ensures { λ r. ⌜ record { words = now (words .exit); result = now (result .exit); samples = now (out .exit) } ≡ renderFace (now (words .entry)) frequency (now (registration .entry)) gain (now (out .entry)) ⌝ }
+) -> u32
+    ensures { λ r. ⌜ record { answer = r; words = now (words .exit); result = now (result .exit); samples = now (out .exit) } ≡ renderFace (now (words .entry)) frequency (now (registration .entry)) gain (now (out .entry)) ⌝ }
 {
     let r = string_synth::render(state_of(*words), frequency, registration, gain, out);
     let answer = r.answer;
@@ -69,4 +69,5 @@ pub fn render(
     let state = r.state;
     *result = words::result_of(answer, counts);
     store(words, words::stores(answer, out.len()), words_of(state));
+    result[0]
 }

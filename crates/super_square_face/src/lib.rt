@@ -55,12 +55,12 @@ pub fn render(
     shape: f32,
     out: &mut [f32],
     result: &mut [u32; 6],
-)
-    ensures { λ r. ⌜ record { words = now (words .exit); result = now (result .exit); samples = now (out .exit) } ≡ renderFace (now (words .entry)) frequency shape (now (out .entry)) ⌝ }
+) -> u32
+    ensures { λ r. ⌜ record { answer = r; words = now (words .exit); result = now (result .exit); samples = now (out .exit) } ≡ renderFace (now (words .entry)) frequency shape (now (out .entry)) ⌝ }
 {
     if words::no_bool(words[3]) {
         *result = words::no_state(out.len());
-        return;
+        return result[0];
     }
     let r = super_square::render(state_of(*words), frequency, shape, out);
     let answer = r.answer;
@@ -68,4 +68,5 @@ pub fn render(
     let state = r.state;
     *result = words::result_of(answer, counts);
     store(words, words::stores(answer, out.len()), words_of(state));
+    result[0]
 }

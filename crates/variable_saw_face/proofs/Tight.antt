@@ -1,4 +1,4 @@
--- Every public function's contract, as the kit reads it, determines all: words, result and samples. Assumes nothing.
+-- Every public function's contract, as the kit reads it, determines all: answer, words, result and samples. Assumes nothing.
 use mathlib.Core.Path.{refl}
 use Rattle.floats.specs.Contracts.{Determines}
 use Rattle.floats.proofs.Contracts.{coincide}
@@ -10,4 +10,4 @@ pub init-tight : Determines init.ended init.Reads.Learnt
 init-tight κs a r q v w h k = (refl, rw (coincide h k))
 
 pub render-tight : Determines render.ended render.Reads.Learnt
-render-tight κs a r q v w h k = let o = same-face (coincide h k) in (refl, rw (o .0, o .1, o .2))
+render-tight κs a r q v w h k = let o = same-face (coincide h k) in (o .0, rw (o .1, o .2, o .3))

@@ -70,12 +70,12 @@ pub fn render(
     phase_output: bool,
     out: &mut [f32],
     result: &mut [u32; 6],
-)
-    ensures { λ r. ⌜ record { words = now (words .exit); result = now (result .exit); samples = now (out .exit) } ≡ renderFace (now (words .entry)) «master_frequency» frequency pw waveshape «phase_modulation» sync «phase_output» (now (out .entry)) ⌝ }
+) -> u32
+    ensures { λ r. ⌜ record { answer = r; words = now (words .exit); result = now (result .exit); samples = now (out .exit) } ≡ renderFace (now (words .entry)) «master_frequency» frequency pw waveshape «phase_modulation» sync «phase_output» (now (out .entry)) ⌝ }
 {
     if words::no_bool(words[4]) {
         *result = words::no_state(out.len());
-        return;
+        return result[0];
     }
     let r = variable_shape::render(
         state_of(*words),
@@ -93,6 +93,7 @@ pub fn render(
     let state = r.state;
     *result = words::result_of(answer, counts);
     store(words, words::stores(answer, out.len()), words_of(state));
+    result[0]
 }
 
 // The first word alone is stored, so that the others stay bit by bit as they were, whatever they are.

@@ -5,7 +5,7 @@ use mathlib.Core.Logic.{⊎-elim, inl, inr}
 use mathlib.Core.List.{List, [], _∷_}
 use Prim.Native.Nat.{ℕ}
 use lib.Dec.{leb, eqb}
-use lib.ListN.{length}
+use lib.ListN.{length, getD}
 use borrow.Author.Tests.{eqb-true}
 use Rattle.block.specs.Calls.{Call, refusal}
 use Rattle.block.specs.Checks.{Check, FirstFailing, here, later, _unless_}
@@ -17,7 +17,7 @@ use Rattle.words.specs.Face.{Face, resultOf, storesOf, faceOf, refusedFa
 -- c is what the oscillator's call left, d what its definition says, from the state that was read
 pub face-is : {S : Type 0} (wordsOf : S → List ℕ) (given : List ℕ) {c d : Call S} {stored : Bool} {after kept result : List ℕ}
     → c ≡ d → stored ≡ storesOf (c .number) (length (c .samples)) → after ≡ wordsOf (c .state) → kept ≡ cond stored after given → result ≡ resultOf c
-    → record { words = kept; result = result; samples = c .samples } ≡ faceOf wordsOf given d
+    → record { answer = getD result 0 0; words = kept; result = result; samples = c .samples } ≡ faceOf wordsOf given d
 unfolding faceOf
 face-is wordsOf given e at-stored at-after at-kept at-result = rw (at-kept, at-stored, at-after, at-result) (ap (faceOf wordsOf given) e)
 
@@ -64,6 +64,6 @@ pub either-way : (P : Face → Type 0) (b : Bool) {f g : Face} → P f → P g �
 either-way P true p q = p
 either-way P false p q = q
 
--- what two calls leave, part by part
-pub same-face : {f g : Face} → f ≡ g → (f .words ≡ g .words) × (f .result ≡ g .result) × (f .samples ≡ g .samples)
-same-face e = (ap (λ (f : Face). f .words) e, ap (λ (f : Face). f .result) e, ap (λ (f : Face). f .samples) e)
+-- what two calls give and leave, part by part
+pub same-face : {f g : Face} → f ≡ g → (f .answer ≡ g .answer) × (f .words ≡ g .words) × (f .result ≡ g .result) × (f .samples ≡ g .samples)
+same-face e = (ap (λ (f : Face). f .answer) e, ap (λ (f : Face). f .words) e, ap (λ (f : Face). f .result) e, ap (λ (f : Face). f .samples) e)

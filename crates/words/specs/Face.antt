@@ -1,4 +1,5 @@
--- What a call from another language leaves, for any oscillator: the state's words, the six words of the result, and the samples. Assumes nothing.
+-- What a call from another language gives, for any oscillator: the answer that it returns, the state's words, the six words of the result, the first of
+-- them the answer again, and the samples. Assumes nothing.
 use mathlib.Core.Path.{_≡_}
 use mathlib.Core.Bool.{Bool, cond, _&&_}
 use mathlib.Core.Logic.{_⊎_}
@@ -15,6 +16,7 @@ use Rattle.block.specs.Counting.{noCounts, told}
 use Rattle.block.specs.Calls.{Call}
 
 pub record Face : Type 0 where
+  pub answer : ℕ
   pub words : List ℕ
   pub result : List ℕ
   pub samples : List Float
@@ -34,15 +36,20 @@ storesOf number samples = eqb number 0 && ltb 0 samples
 
 -- what an oscillator's call leaves, put into words
 unfoldable pub faceOf : {S : Type 0} → (S → List ℕ) → List ℕ → Call S → Face
-faceOf wordsOf given c = record { words = cond (storesOf (c .number) (length (c .samples))) (wordsOf (c .state)) given; result = resultOf c; samples = c .samples }
+faceOf wordsOf given c = record {
+  answer = c .number;
+  words = cond (storesOf (c .number) (length (c .samples))) (wordsOf (c .state)) given;
+  result = resultOf c;
+  samples = c .samples;
+}
 
 -- a refusal with this number and index: the words and the samples as they were, and nothing counted
 abbrev pub refusedFace : ℕ → ℕ → List ℕ → List Float → Face
-refusedFace number index given xs = record { words = given; result = number ∷ index ∷ told noCounts; samples = xs }
+refusedFace number index given xs = record { answer = number; words = given; result = number ∷ index ∷ told noCounts; samples = xs }
 
 -- in the words of a promise: answered, or refused with the words and the samples as they were and nothing counted
 abbrev pub AnsweredOrKept : List ℕ → List Float → Face → Type 0
-AnsweredOrKept given xs f = (getD (f .result) 0 0 ≡ 0) ⊎ (f ≡ refusedFace (getD (f .result) 0 0) (getD (f .result) 1 0) given xs)
+AnsweredOrKept given xs f = (f .answer ≡ 0) ⊎ (f ≡ refusedFace (f .answer) (getD (f .result) 1 0) given xs)
 
 -- the number of a bad state over so many samples: a block that is too long is refused as such before the state is looked at
 abbrev pub badStateOf : ℕ → ℕ

@@ -6,15 +6,16 @@ use Rattle.string_synth_face.proofs.render.Tie as tie
 
 returns : tie.Need-returns
 returns c =
-    let n = c .before .before in
+    let p = c .before in
+    let n = p .before .before in
     let q = n .before .before in
     let r = q .before .before .before .before .before in
     let s = r .before .before in
-    face-is _ _ (rw (s .state-of .ensures) at (r .render .ensures)) (n .stores .ensures) (c .before .words-of .ensures) (c .store .ensures) (q .result-of .ensures)
+    face-is _ _ (rw (s .state-of .ensures) at (r .render .ensures)) (n .stores .ensures) (p .before .words-of .ensures) (p .store .ensures) (q .result-of .ensures)
 
 pub render-spec : {M : Type 1} → statement M
 render-spec =
     tie.close
     (tie.spec
     (λ c κs. search needs) (λ c κs. search needs) (λ c κs. search needs) (λ c κs. search needs) (λ c κs. search needs) (λ c κs. search needs)
-    (λ c. search needs) returns)
+    (λ c. search needs) (λ c. search needs) returns)
