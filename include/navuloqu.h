@@ -1,27 +1,54 @@
-/* Navuloqu's tone generators for C and for whoever calls C. Link libnavuloqu.a (x86-64), which `rt staticlib navuloqu` writes.
+/* Navuloqu's tone generators for C and for whoever calls C. Link libnavuloqu.a (Linux, x86-64), which `rt staticlib navuloqu` writes.
+ *
+ * LOOK AT THE ANSWER of every call. A block that is refused leaves in the buffer what it held before: a buffer that is used again then holds
+ * the last block, and who takes that for a rendered one delivers it twice.
  *
  * Each oscillator has `init` and `render`, and the variable shape can have its master's phase set. They keep nothing between calls: the
  * state is the caller's, an array of 32-bit words in the order of the fields given below, floats as their bit patterns, bools as 0 or 1,
  * whole numbers in two's complement. `init` writes the words of the oscillator's initial state, which lies in its range.
  *
- * A parameter moves over the block from the value that the state holds to the one that the call asks for: a step is its value for one
- * sample. The room of a step is the range in which it is answered: a frequency above 0 and at most 17/64 (string synth 17/32), a pulse
- * width strictly between 0 and 1, the others as in the state.
+ * A block is a glide. Each parameter moves over the block in equal steps, up to rounding, from the value that the state holds, which is where
+ * the last block ended, to the one that the call asks for (phase_modulation only with `phase_output`): a note that is to start at its pitch
+ * starts from a state that holds this pitch. A step is the parameter's value for one sample. Its room is the range in which it is answered:
+ * a frequency above 0 and at most 17/64 (string synth 17/32), a pulse width strictly between 0 and 1, the others as in the state.
+ *
+ * An answered call may play another pitch or width than it was asked for, as the oscillators of the source do; nothing else is changed:
+ *   - A frequency above 0.25 is played as 0.25: master and slave of variable shape and super square, variable saw, NES triangle.
+ *   - The super square's slave runs at the frequency times a factor that `shape` sets, and that product too is clipped at 0.25.
+ *   - With f the frequency after its clip, a pulse width is clamped to 2 f .. 1 - 2 f; from f = 0.25 up it is 0.5.
+ *   - The string synth is played an octave lower, with the registration two places higher, once above 1/16, twice above 1/8, three times
+ *     above 1/4. The sound keeps its pitch, and the entries that have no place left drop out: square 2' and saw 1' above 1/16; square 4'
+ *     and saw 2' too above 1/8; square 8' and saw 4' too above 1/4, so that saw 8' alone is left. Above 1/2 the call is refused. The
+ *     state's frequency is eight times that of the call, halved for each octave.
+ *
+ * What is counted:
+ *                    cycles: wraps of                           rises and falls                                        cuts
+ *   variable shape   the master's phase with `sync`,            the slave's pulse turns high and low                   with `sync`
+ *                    the slave's without
+ *   variable saw     its phase                                  the pulse turns high at the width, low at the wrap     none
+ *   super square     the master's phase                         the slave's pulse turns high and low                   yes
+ *   NES triangle     its phase                                  rises: samples that reach another step; no falls       none
+ *   string synth     its phase, 8 units: one of the lowest saw  rises: samples in another eighth of it; no falls       none
+ * A cut is a reset by the master that finds the slave's pulse high. A string an octave lower counts half as many cycles.
  *
  * The state's ranges: phases from 0 to below 1 (the variable saw's to 81/64 where `high` is 1, the string synth's to below 8); frequencies
  * 0 to 17/64 (string synth 17/32); pw and previous_pw 0 to 1; waveshape -1 to 2; phase_modulation and gains -16 to 16; the NES triangle's
  * step 0 to 2^num_bits - 1, the string synth's segment 0 to 7; next_sample may hold any bits. What an answered call leaves lies in them,
  * though a step may be too large for the next call's num_bits.
  *
- * `render` makes `count` samples in `out` and writes six words to `result`:
- *   result[0]  the answer, one of the numbers below
- *   result[1]  with NAVULOQU_DRIFT the index of the first sample with a step outside its room, else 0
- *   result[2]  cycles    result[3]  rises    result[4]  falls    result[5]  cuts
- * Whatever the answer but 0, the state's words and all samples are as they were, and the counts are 0; with answer 0 for an empty block
- * too. A NaN in the state after an answered block that is not empty, which only next_sample can be, is the word 0x7fc00000.
+ * `render` makes `count` samples in `out`, returns the answer, and writes it and what was counted to `result`. Whatever the answer but 0,
+ * the state's words and all samples are as they were, and the counts are 0; with answer 0 for an empty block too. A NaN in the state after
+ * an answered block that is not empty, which only next_sample can be, is the word 0x7fc00000.
  *
- * Pointers must be valid for what is said of them here, and must not overlap; a bool is 0 or 1; nothing else is asked of the caller:
- * every bit pattern of every float, whole number and state word is answered. */
+ * Of the caller is asked:
+ *   - Pointers are valid for what is said of them here, and do not overlap; a bool is 0 or 1.
+ *   - The floating-point environment is the one that a program starts with: rounding to nearest, ties to even; no flush to zero, no
+ *     denormals as zero; exceptions masked. Hosts of plug-ins often set flush to zero and denormals as zero, and then samples and states
+ *     differ; a trap ends the program. navuloqu_guard_begin and navuloqu_guard_end, below, see to it.
+ * Nothing else: every bit pattern of every float, whole number and state word is answered.
+ *
+ * A shared library that is linked with the archive should keep its names to itself, or two plug-ins in one host may call each other's:
+ * link with -Wl,--exclude-libs,libnavuloqu.a. */
 #ifndef NAVULOQU_H
 #define NAVULOQU_H
 
@@ -33,14 +60,89 @@
 extern "C" {
 #endif
 
+/* What this header declares. Word counts, arguments and results may change with it, so that the archive's names carry it: a program that was
+ * compiled with the header of another version does not link. */
+#define NAVULOQU_VERSION 1
+#define navuloqu_variable_shape_init navuloqu_1_variable_shape_init
+#define navuloqu_variable_shape_render navuloqu_1_variable_shape_render
+#define navuloqu_variable_shape_set_master_phase navuloqu_1_variable_shape_set_master_phase
+#define navuloqu_variable_saw_init navuloqu_1_variable_saw_init
+#define navuloqu_variable_saw_render navuloqu_1_variable_saw_render
+#define navuloqu_super_square_init navuloqu_1_super_square_init
+#define navuloqu_super_square_render navuloqu_1_super_square_render
+#define navuloqu_nes_triangle_init navuloqu_1_nes_triangle_init
+#define navuloqu_nes_triangle_render navuloqu_1_nes_triangle_render
+#define navuloqu_string_synth_init navuloqu_1_string_synth_init
+#define navuloqu_string_synth_render navuloqu_1_string_synth_render
+
+/* Whoever does not look at the answer is warned by the compiler. */
+#if (defined(__cplusplus) && __cplusplus >= 201703L) || (defined(__STDC_VERSION__) && __STDC_VERSION__ > 201710L)
+#define NAVULOQU_ANSWER [[nodiscard]] uint32_t
+#elif defined(__GNUC__)
+#define NAVULOQU_ANSWER __attribute__((warn_unused_result)) uint32_t
+#else
+#define NAVULOQU_ANSWER uint32_t
+#endif
+
 /* The answers. */
 #define NAVULOQU_DONE 0             /* rendered; also an empty block that passes, which changes nothing */
-#define NAVULOQU_LONG_BLOCK 1       /* more than 4,096 samples */
-#define NAVULOQU_BAD_REGISTRATION 2 /* string synth only: the registration is not 7 long */
+#define NAVULOQU_LONG_BLOCK 1       /* more than NAVULOQU_LONGEST_BLOCK samples */
+#define NAVULOQU_BAD_REGISTRATION 2 /* string synth only: the registration is not NAVULOQU_REGISTRATION_ENTRIES long */
 #define NAVULOQU_BAD_STATE 3        /* the state lies outside its range, or a bool's word is neither 0 nor 1 */
 #define NAVULOQU_BAD_PARAM 4        /* a parameter lies outside its range */
 #define NAVULOQU_TOO_HIGH 5         /* string synth only: the frequency is above 0.5 */
 #define NAVULOQU_DRIFT 6            /* an interpolated step leaves its room */
+
+/* The answer's name, for a message. */
+static inline const char *navuloqu_answer_name(uint32_t answer)
+{
+    switch (answer) {
+    case NAVULOQU_DONE: return "Done";
+    case NAVULOQU_LONG_BLOCK: return "LongBlock";
+    case NAVULOQU_BAD_REGISTRATION: return "BadRegistration";
+    case NAVULOQU_BAD_STATE: return "BadState";
+    case NAVULOQU_BAD_PARAM: return "BadParam";
+    case NAVULOQU_TOO_HIGH: return "TooHigh";
+    case NAVULOQU_DRIFT: return "Drift";
+    default: return "no answer of this version";
+    }
+}
+
+#define NAVULOQU_LONGEST_BLOCK 4096      /* samples that a call answers at most */
+#define NAVULOQU_REGISTRATION_ENTRIES 7  /* of the string synth */
+
+/* The places in `result`, and how many there are. */
+#define NAVULOQU_RESULT_ANSWER 0      /* as it is returned */
+#define NAVULOQU_RESULT_DRIFT_INDEX 1 /* with NAVULOQU_DRIFT the index of the first sample with a step outside its room, else 0 */
+#define NAVULOQU_RESULT_CYCLES 2
+#define NAVULOQU_RESULT_RISES 3
+#define NAVULOQU_RESULT_FALLS 4
+#define NAVULOQU_RESULT_CUTS 5
+#define NAVULOQU_RESULT_WORDS 6
+
+/* The floating-point environment. Between the two calls floats are computed as the oscillators need it, in this thread; the second puts back
+ * what was there before. They cost a few nanoseconds: once around all calls of a block is enough.
+ *
+ *     const uint32_t control = navuloqu_guard_begin();
+ *     const uint32_t answer = navuloqu_super_square_render(state, frequency, shape, out, count, result);
+ *     navuloqu_guard_end(control); */
+#if defined(__x86_64__)
+/* Sets MXCSR to what a program starts with: nearest-even, nothing flushed, exceptions masked. Returns what it was. */
+static inline uint32_t navuloqu_guard_begin(void)
+{
+    const uint32_t needed = 0x1f80;
+    uint32_t control;
+    __asm__ __volatile__("stmxcsr %0" : "=m"(control) : : "memory");
+    __asm__ __volatile__("ldmxcsr %0" : : "m"(needed) : "memory");
+    return control;
+}
+
+/* Puts back what navuloqu_guard_begin returned. */
+static inline void navuloqu_guard_end(uint32_t control)
+{
+    __asm__ __volatile__("ldmxcsr %0" : : "m"(control) : "memory");
+}
+#endif
 
 /* Variable shape. State words: master_phase, slave_phase, next_sample, previous_pw, high (bool), master_frequency, slave_frequency, pw,
  * waveshape, phase_modulation. */
@@ -48,22 +150,23 @@ extern "C" {
 
 void navuloqu_variable_shape_init(uint32_t state[NAVULOQU_VARIABLE_SHAPE_WORDS]);
 
-void navuloqu_variable_shape_render(
+/* A refused block leaves what `out` held: used again, the buffer repeats the last block. */
+NAVULOQU_ANSWER navuloqu_variable_shape_render(
     uint32_t state[NAVULOQU_VARIABLE_SHAPE_WORDS], /* read; after answer 0 the state that the block left */
-    float master_frequency,                        /* in cycles per sample: 0.000001 to 1, also without `sync` */
-    float frequency,                               /* the slave's, in cycles per sample: 0.000001 to 1 */
-    float pw,                                      /* the slave's pulse width: 0 to 1 */
+    float master_frequency,                        /* in cycles per sample: 0.000001 to 1, also without `sync`; above 0.25 as 0.25 */
+    float frequency,                               /* the slave's, in cycles per sample: 0.000001 to 1; above 0.25 as 0.25 */
+    float pw,                                      /* the slave's pulse width: 0 to 1, clamped by the slave's frequency */
     float waveshape,                               /* 0 to 1: from triangle over saw to square */
     float phase_modulation,                        /* -8 to 8, also without `phase_output` */
     bool sync,                                     /* whether the master resets the slave */
     bool phase_output,                             /* whether the phase is put out, and not the waveform */
     float *out,                                    /* `count` samples, overwritten */
-    size_t count,                                  /* at most 4,096, else the answer is 1 */
-    uint32_t result[6]);
+    size_t count,                                  /* at most NAVULOQU_LONGEST_BLOCK */
+    uint32_t result[NAVULOQU_RESULT_WORDS]);
 
 /* Sets the master's phase. Returns NAVULOQU_DONE, and state[0] is the phase bit by bit; or NAVULOQU_BAD_PARAM where the phase is not
  * from 0 to below 1, and no word has changed. The other words are neither tested nor touched. */
-uint32_t navuloqu_variable_shape_set_master_phase(
+NAVULOQU_ANSWER navuloqu_variable_shape_set_master_phase(
     uint32_t state[NAVULOQU_VARIABLE_SHAPE_WORDS],
     float phase); /* at least 0 and below 1 */
 
@@ -72,55 +175,59 @@ uint32_t navuloqu_variable_shape_set_master_phase(
 
 void navuloqu_variable_saw_init(uint32_t state[NAVULOQU_VARIABLE_SAW_WORDS]);
 
-void navuloqu_variable_saw_render(
+/* A refused block leaves what `out` held: used again, the buffer repeats the last block. */
+NAVULOQU_ANSWER navuloqu_variable_saw_render(
     uint32_t state[NAVULOQU_VARIABLE_SAW_WORDS], /* read; after answer 0 the state that the block left */
-    float frequency,                             /* in cycles per sample: 0.000001 to 1 */
-    float pw,                                    /* the pulse width: 0 to 1 */
+    float frequency,                             /* in cycles per sample: 0.000001 to 1; above 0.25 as 0.25 */
+    float pw,                                    /* the pulse width: 0 to 1, clamped by the frequency */
     float waveshape,                             /* 0 to 1: from the notched saw to the triangle */
     float *out,                                  /* `count` samples, overwritten */
-    size_t count,                                /* at most 4,096, else the answer is 1 */
-    uint32_t result[6]);
+    size_t count,                                /* at most NAVULOQU_LONGEST_BLOCK */
+    uint32_t result[NAVULOQU_RESULT_WORDS]);
 
 /* Super square. State words: master_phase, slave_phase, next_sample, high (bool), master_frequency, slave_frequency. */
 #define NAVULOQU_SUPER_SQUARE_WORDS 6
 
 void navuloqu_super_square_init(uint32_t state[NAVULOQU_SUPER_SQUARE_WORDS]);
 
-void navuloqu_super_square_render(
+/* A refused block leaves what `out` held: used again, the buffer repeats the last block. */
+NAVULOQU_ANSWER navuloqu_super_square_render(
     uint32_t state[NAVULOQU_SUPER_SQUARE_WORDS], /* read; after answer 0 the state that the block left */
-    float frequency,                             /* the master's, in cycles per sample: 0.000001 to 1 */
-    float shape,                                 /* 0 to 1: the slave runs 0.51 to 5 times as fast as the master */
+    float frequency,                             /* the master's, in cycles per sample: 0.000001 to 1; above 0.25 as 0.25 */
+    float shape,                                 /* 0 to 1: the slave runs 0.51 to 5 times as fast, at most at 0.25 */
     float *out,                                  /* `count` samples, overwritten */
-    size_t count,                                /* at most 4,096, else the answer is 1 */
-    uint32_t result[6]);
+    size_t count,                                /* at most NAVULOQU_LONGEST_BLOCK */
+    uint32_t result[NAVULOQU_RESULT_WORDS]);
 
 /* NES triangle. State words: phase, next_sample, step (whole number), ascending (bool), frequency. */
 #define NAVULOQU_NES_TRIANGLE_WORDS 5
 
 void navuloqu_nes_triangle_init(uint32_t state[NAVULOQU_NES_TRIANGLE_WORDS]);
 
-void navuloqu_nes_triangle_render(
+/* A refused block leaves what `out` held: used again, the buffer repeats the last block. */
+NAVULOQU_ANSWER navuloqu_nes_triangle_render(
     uint32_t state[NAVULOQU_NES_TRIANGLE_WORDS], /* read; after answer 0 the state that the block left */
-    float frequency,                             /* in cycles per sample: 0.000001 to 1 */
+    float frequency,                             /* in cycles per sample: 0.000001 to 1; above 0.25 as 0.25 */
     uint32_t num_bits,                           /* 1 to 16: a cycle has 2^num_bits steps */
     float *out,                                  /* `count` samples, overwritten */
-    size_t count,                                /* at most 4,096, else the answer is 1 */
-    uint32_t result[6]);
+    size_t count,                                /* at most NAVULOQU_LONGEST_BLOCK */
+    uint32_t result[NAVULOQU_RESULT_WORDS]);
 
 /* String synth. State words: phase, next_sample, segment (whole number), frequency, saw_8_gain, saw_4_gain, saw_2_gain, saw_1_gain. */
 #define NAVULOQU_STRING_SYNTH_WORDS 8
 
 void navuloqu_string_synth_init(uint32_t state[NAVULOQU_STRING_SYNTH_WORDS]);
 
-void navuloqu_string_synth_render(
+/* A refused block adds nothing to `out`: used again without being cleared, the buffer repeats the last block. */
+NAVULOQU_ANSWER navuloqu_string_synth_render(
     uint32_t state[NAVULOQU_STRING_SYNTH_WORDS], /* read; after answer 0 the state that the block left */
-    float frequency,                             /* in cycles per sample: 0.000001 to 0.5; above that, up to 1, the answer is 5 */
+    float frequency,                             /* in cycles per sample: 0.000001 to 0.5; above that, up to 1, NAVULOQU_TOO_HIGH */
     const float *registration,                   /* 0 to 1 each: saw 8', square 8', saw 4', square 4', saw 2', square 2', saw 1' */
-    size_t registration_count,                   /* 7, else the answer is 2 */
+    size_t registration_count,                   /* NAVULOQU_REGISTRATION_ENTRIES, else NAVULOQU_BAD_REGISTRATION */
     float gain,                                  /* 0 to 4 */
     float *out,                                  /* `count` samples, to which the block is added */
-    size_t count,                                /* at most 4,096, else the answer is 1 */
-    uint32_t result[6]);
+    size_t count,                                /* at most NAVULOQU_LONGEST_BLOCK */
+    uint32_t result[NAVULOQU_RESULT_WORDS]);
 
 #ifdef __cplusplus
 }
