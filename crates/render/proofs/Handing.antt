@@ -7,7 +7,8 @@ use native.Mathlib.Nat.{zero-add}
 use native.Mathlib.Omega.{arith}
 use borrow.Author.Tests.{le-leb, lt-leb, eq-eqb, leb-true}
 use lib.Dec.{leb}
-use lib.ListN.{length, drop, length-append}
+use lib.ListN.{length, take, drop, length-append}
+use lib.Seq.{take-at}
 use Rattle.floats.proofs.Bools.{and-both}
 use Rattle.block.specs.declared.Answer.{Answer}
 use Rattle.block.specs.declared.Answer.the-variants.{BadInput}
@@ -89,6 +90,13 @@ text-long list = go (isJobList list) refl
 pub always-room : (list d : List ℕ) → 78848 ≤ length d → renderOf list d .number ≡ answerNumber (answerIf (isJobList list))
 unfolding written
 always-room list d h = rw (le-leb (length (textOf list)) (length d) (omega (arith, text-long list)))
+
+-- what a program that lends so much room writes of it: the text, and nothing else
+pub whole-text : (r : Written) (d' list d : List ℕ) → handedBack r d' ≡ renderOf list d → 78848 ≤ length d → take (countOf r) d' ≡ textOf list
+unfolding written
+whole-text r d' list d e h =
+    let fits = rw (le-leb (length (textOf list)) (length d) (omega (arith, text-long list))) at e in
+    rw (ap (λ (x : Handed). x .count) fits, ap (λ (x : Handed). x .buffer) fits) (take-at (textOf list) _ _ refl)
 
 -- the text of a list that is not refused as a whole has a line for each of its records
 pub line-for-each : (list : List ℕ) → length list ≤ 65536 → length list % 64 ≡ 0 → newLines (textOf list) ≡ length list / 64

@@ -4,4 +4,5 @@ pub mod Digits
 pub mod Loop
 pub mod Lists
 pub mod Handing
+pub mod Bytes
 pub mod Tight

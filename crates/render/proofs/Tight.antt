@@ -1,4 +1,4 @@
--- The contracts of `render` and `count`, as the kit reads them, determine all: number, length and text. Assumes nothing.
+-- Every public function's contract, as the kit reads it, determines all: of `render` number, length and text. Assumes nothing.
 use mathlib.Core.Path.{_≡_, refl, ap}
 use native.Mathlib.Omega.{arith}
 use Rattle.floats.specs.Contracts.{Determines}
@@ -7,6 +7,8 @@ use Rattle.render.specs.declared.Written.{Written}
 use Rattle.render.specs.declared.Written.the-variants.{Text, BadInput, NoRoom}
 use Rattle.render.specs.Lists.{Handed, numberOf, countOf}
 use Rattle.render.proofs.count
+use Rattle.render.proofs.form.is_job_list
+use Rattle.render.proofs.form.looks_like_text
 use Rattle.render.proofs.render
 
 same-written : (r q : Written) → numberOf r ≡ numberOf q → countOf r ≡ countOf q → r ≡ q
@@ -22,6 +24,12 @@ same-written NoRoom NoRoom h k = refl
 
 pub count-tight : Determines count.ended count.Reads.Learnt
 count-tight κs a r q v w h k = (coincide h k, refl)
+
+pub is-job-list-tight : Determines is_job_list.ended is_job_list.Reads.Learnt
+is-job-list-tight κs a r q v w h k = (coincide h k, refl)
+
+pub looks-like-text-tight : Determines looks_like_text.ended looks_like_text.Reads.Learnt
+looks-like-text-tight κs a r q v w h k = (coincide h k, refl)
 
 pub render-tight : Determines render.ended render.Reads.Learnt
 render-tight κs a r q v w h k =

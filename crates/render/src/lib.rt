@@ -2,14 +2,18 @@
 ghost use mathlib.Core.Path.{_≡_};
 ghost use Prim.Native.Nat.{_≤_};
 ghost use lib.ListN.{length};
-ghost use Rattle.render.specs.Lists.{recordsFrom, linesOf, isJobList, textOf, answerIf, written, renderOf, countOf, handedBack};
+ghost use Rattle.render.specs.Lists.{recordsFrom, linesOf, textOf, answerIf, written, renderOf, countOf, handedBack};
 ghost use Rattle.bank.specs.Bank.{recordPlayed};
 ghost use Rattle.render.specs.Private.{Wrote, fittedOf, saidOf};
 use bank::Bank;
 use bank::Played;
 use block::Answer;
 
+mod form;
 mod text;
+
+pub use form::is_job_list;
+pub use form::looks_like_text;
 
 // No text is longer: 1,024 lines of seven numbers, each of ten digits and one byte more.
 pub const ROOM: usize = 78848;
@@ -40,13 +44,6 @@ pub fn render(list: &[u8], out: &mut [u8]) -> Written
     let mut whole = [0u8; ROOM];
     let n = compose(list, &mut whole);
     hand_over(is_job_list(list), &whole[0..n], out)
-}
-
-// At most 1,024 records, and each of them whole. The empty list is one.
-fn is_job_list(list: &[u8]) -> bool
-    ensures { λ r. ⌜ r ≡ isJobList (now (list .entry)) ⌝ }
-{
-    (list.len() <= 65536) & (list.len() % 64 == 0)
 }
 
 // The text, where it fits.

@@ -1,18 +1,18 @@
--- `renderer::main` is safe: the bytes that it writes are those that `render` says it wrote. Assumes nothing.
-use Rattle.render.proofs.Handing.{inside}
+-- `renderer::main` is safe: the bytes that it hands on are those that were read. Assumes nothing.
 use borrow.Author.Needs.{needs}
+use Rattle.streams.proofs.Reading.{were-read}
 use Rattle.renderer.proofs.main.Statement.{statement}
 use Rattle.renderer.proofs.main.Tie as tie
 
-part-write-all-end : tie.Need-part-write-all-end
-part-write-all-end c =
-    let counted = c .before in
-    let rendered = counted .before .before in
-    rw (counted .count .ensures) (inside (rendered .render .result) _ _ _ _ (rendered .render .ensures))
+array-share-prefix-list : tie.Need-array-share-prefix-list
+array-share-prefix-list c = were-read _ (c .before .before .before .before .read .ensures) (c .before .input .given .1) .0
+
+slice-aggregate-answer : tie.Need-slice-aggregate-answer
+slice-aggregate-answer c = were-read _ (c .before .before .before .before .before .read .ensures) (c .before .before .input .given .1) .1
 
 pub main-spec : {M : Type 1} → statement M
 main-spec =
     tie.close
     (tie.spec
-    (λ c. search needs) (λ c κs. search needs) (λ c. search needs) (λ c. search needs) (λ c. search needs) (λ c κs. search needs)
-    (λ c κs. search needs) (λ c. search needs) (λ c. search needs) part-write-all-end (λ c κs. search needs) (λ c. search needs))
+    (λ c. search needs) (λ c. search needs) (λ c κs. search needs) (λ c. search needs) array-share-prefix-list slice-aggregate-answer
+    (λ c κs. search needs) (λ c. search needs) (λ c. search needs) (λ c. search needs))

@@ -1,0 +1,2 @@
+-- What a read comes to.
+pub mod Input
