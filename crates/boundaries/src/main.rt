@@ -1,45 +1,112 @@
 // Test program: the figures of the request that are run, each with its name: how long a block may be, how long a registration is, how high a string goes, and where the saw drifts.
 ghost use Prim.Native.Nat.{_≤_};
 use block::Answer;
-use libc::STDOUT_FILENO;
 
-// One line for each figure, in the request's order.
+// One line for each figure, in the request's order, and all of them written at once.
 fn main() {
-    say(b"super square, 4,096 samples: ", super_square_of(4096));
-    say(b"super square, 4,097 samples: ", super_square_of(4097));
-    say(b"variable shape, 4,096 samples: ", variable_shape_of(4096));
-    say(b"variable shape, 4,097 samples: ", variable_shape_of(4097));
-    say(b"variable saw, 4,096 samples: ", variable_saw_of(4096));
-    say(b"variable saw, 4,097 samples: ", variable_saw_of(4097));
-    say(b"NES triangle, 4,096 samples: ", nes_triangle_of(4096));
-    say(b"NES triangle, 4,097 samples: ", nes_triangle_of(4097));
-    say(
-        b"string synth, 4,096 samples: ",
+    let mut space = [0u8; 1024];
+    let text: &mut [u8] = &mut space;
+    let pairs = put_pairs(text);
+    let blocks = put_singles(text, pairs);
+    let strings = put_strings(text, blocks);
+    let end = put_drift(text, strings);
+    streams::write(b"boundaries", testing::front(text, end));
+}
+
+// How long a block may be, of the oscillators with a master and a slave.
+fn put_pairs(text: &mut [u8]) -> usize {
+    let square = put_lengths(
+        text,
+        0,
+        b"super square",
+        super_square_of(4096),
+        super_square_of(4097),
+    );
+    put_lengths(
+        text,
+        square,
+        b"variable shape",
+        variable_shape_of(4096),
+        variable_shape_of(4097),
+    )
+}
+
+// And of the others.
+fn put_singles(text: &mut [u8], at: usize) -> usize {
+    let saw = put_lengths(
+        text,
+        at,
+        b"variable saw",
+        variable_saw_of(4096),
+        variable_saw_of(4097),
+    );
+    let nes = put_lengths(
+        text,
+        saw,
+        b"NES triangle",
+        nes_triangle_of(4096),
+        nes_triangle_of(4097),
+    );
+    put_lengths(
+        text,
+        nes,
+        b"string synth",
         string_synth_of(4096, 7, 0.5),
-    );
-    say(
-        b"string synth, 4,097 samples: ",
         string_synth_of(4097, 7, 0.5),
-    );
-    say(
-        b"string synth, registration of 6: ",
+    )
+}
+
+// The longest block, and one sample more.
+fn put_lengths(text: &mut [u8], at: usize, whose: &[u8], longest: u32, longer: u32) -> usize {
+    let one = put(text, at, whose, b", 4,096 samples: ", longest);
+    put(text, one, whose, b", 4,097 samples: ", longer)
+}
+
+// How long a registration is, and how high a string goes.
+fn put_strings(text: &mut [u8], at: usize) -> usize {
+    let whose = b"string synth";
+    let six = put(
+        text,
+        at,
+        whose,
+        b", registration of 6: ",
         string_synth_of(64, 6, 0.5),
     );
-    say(
-        b"string synth, registration of 8: ",
+    let eight = put(
+        text,
+        six,
+        whose,
+        b", registration of 8: ",
         string_synth_of(64, 8, 0.5),
     );
-    say(
-        b"string synth, frequency 0.5: ",
+    let highest = put(
+        text,
+        eight,
+        whose,
+        b", frequency 0.5: ",
         string_synth_of(64, 7, 0.5),
     );
-    say(
-        b"string synth, the next float up: ",
-        string_synth_of(64, 7, floats::from_bits(0x3f00_0001)),
-    );
+    let next_up = string_synth_of(64, 7, floats::from_bits(0x3f00_0001));
+    put(text, highest, whose, b", the next float up: ", next_up)
+}
+
+// Where the saw drifts.
+fn put_drift(text: &mut [u8], at: usize) -> usize {
     let drift = drifting_saw();
-    say(b"variable saw, Drift: ", block::number(drift));
-    say(b"variable saw, index of Drift: ", block::index(drift));
+    let number = put(
+        text,
+        at,
+        b"variable saw",
+        b", Drift: ",
+        block::number(drift),
+    );
+    put(
+        text,
+        number,
+        b"variable saw",
+        b", index of Drift: ",
+        block::index(drift),
+    )
 }
 
 // The answer's number to a block of n samples from the initial state, at the highest pitch that each plays unclipped.
@@ -111,10 +178,8 @@ fn drifting_saw() -> Answer {
 }
 
 // A figure's name and its number, as one line.
-fn say(what: &[u8], number: u32) {
-    let mut space = [0u8; 64];
-    let text: &mut [u8] = &mut space;
-    let at = testing::put(text, 0, what);
-    let end = testing::put_number(text, at, number, b'\n');
-    io::write_all(STDOUT_FILENO, testing::front(text, end));
+fn put(text: &mut [u8], at: usize, whose: &[u8], what: &[u8], number: u32) -> usize {
+    let named = testing::put(text, at, whose);
+    let said = testing::put(text, named, what);
+    testing::put_number(text, said, number, b'\n')
 }

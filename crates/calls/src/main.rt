@@ -1,8 +1,5 @@
 // Test program: reads call records of 128 bytes from standard input, makes each call through the face for other languages, and prints a line
 // with what it left. A last record that is not whole is left out.
-use libc::STDIN_FILENO;
-use libc::STDOUT_FILENO;
-
 mod kinds;
 mod record;
 mod samples;
@@ -18,13 +15,13 @@ fn main() {
 // Prints the line of the next record, and answers whether there may be more.
 fn print_next() -> bool {
     let mut record = [0u8; 128];
-    if io::read_full(STDIN_FILENO, &mut record) < 128 {
+    if !streams::fill(b"calls", &mut record) {
         return false;
     }
     let mut space = [0u8; 176];
     let text: &mut [u8] = &mut space;
     let end = put_line(text, &record);
-    io::write_all(STDOUT_FILENO, testing::front(text, end))
+    streams::write(b"calls", testing::front(text, end))
 }
 
 // A record's line. Of the buffer the call gets as many samples as its block is long.

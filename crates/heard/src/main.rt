@@ -3,8 +3,6 @@
 // list a line `-`. A list that is no job list has the one line `8`. It ends at a list that is cut short or has more than 70,000 bytes.
 ghost use Prim.Native.Nat.{_≤_};
 use bank::Bank;
-use libc::STDIN_FILENO;
-use libc::STDOUT_FILENO;
 
 mod line;
 
@@ -19,7 +17,7 @@ fn main() {
 // Prints the lines of the next list, and answers whether there may be more.
 fn say_next() -> bool {
     let mut length = [0u8; 4];
-    if io::read_full(STDIN_FILENO, &mut length) < 4 {
+    if !streams::fill(b"heard", &mut length) {
         return false;
     }
     let n = word(&length);
@@ -39,40 +37,39 @@ fn say_list(n: usize) -> bool
     requires { ⌜ n ≤ 70000 ⌝ }
 {
     let mut list = [0u8; 70000];
-    let read = io::read_full(STDIN_FILENO, &mut list[0..n]);
-    if read < n {
+    if !streams::fill(b"heard", &mut list[0..n]) {
         return false;
     }
-    say_first(&list, n);
-    io::write_all(STDOUT_FILENO, b"-\n")
+    say_first(&list, n) && streams::write(b"heard", b"-\n")
 }
 
 // The lines of the first n bytes. It takes an array by reference, whose length needs no proof.
-fn say_first(list: &[u8; 70000], n: usize) {
+fn say_first(list: &[u8; 70000], n: usize) -> bool {
     if n > 65536 || n % 64 != 0 {
-        io::write_all(STDOUT_FILENO, b"8\n");
-        return;
+        return streams::write(b"heard", b"8\n");
     }
-    say_records(testing::front(list, n), n / 64);
+    say_records(testing::front(list, n), n / 64)
 }
 
-// Each record from the states that the one before left, in a buffer that holds marks before it.
-fn say_records(list: &[u8], count: usize)
+// Each record from the states that the one before left, until a line is not written.
+fn say_records(list: &[u8], count: usize) -> bool
     requires { ⌜ count ≤ 1024 ⌝ }
 {
     let mut bank = bank::start();
+    let mut written = true;
     let mut k = 0;
-    while k < count {
-        bank = say_record(bank, jobs::record(list, k), k as u32);
+    while k < count && written {
+        bank = say_record(bank, jobs::record(list, k), k as u32, &mut written);
         k += 1;
     }
+    written
 }
 
-// Plays a record, and gives the states that it left.
-fn say_record(bank: Bank, part: &[u8], k: u32) -> Bank {
+// Plays a record in a buffer that holds marks before it, and gives the states that it left.
+fn say_record(bank: Bank, part: &[u8], k: u32, written: &mut bool) -> Bank {
     let mut out = [line::UNTOUCHED; 4096];
     let r = bank::play(bank, part, &mut out);
     let outcome = r.outcome;
-    line::say(k, outcome, &out);
+    *written = line::say(k, outcome, &out);
     r.bank
 }

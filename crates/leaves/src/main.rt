@@ -1,7 +1,5 @@
 // Test program: reads records of three little-endian bit patterns from standard input, and prints for each a line with what the leaves make
 // of it. A last record that is not whole is left out.
-use libc::STDIN_FILENO;
-use libc::STDOUT_FILENO;
 use parameter_interpolator::ParameterInterpolator;
 
 // A proved loop has to end, and nothing says that the input does: so the turns are counted down, from a number that no run uses up.
@@ -15,13 +13,13 @@ fn main() {
 // Prints the line of the next record, and answers whether there may be more.
 fn print_next() -> bool {
     let mut input = [0u8; 12];
-    if io::read_full(STDIN_FILENO, &mut input) < 12 {
+    if !streams::fill(b"leaves", &mut input) {
         return false;
     }
     let mut space = [0u8; 108];
     let text: &mut [u8] = &mut space;
     let end = put_line(text, &input);
-    io::write_all(STDOUT_FILENO, testing::front(text, end))
+    streams::write(b"leaves", testing::front(text, end))
 }
 
 // Each of the twelve fields takes at most 8 bytes and the one after it.

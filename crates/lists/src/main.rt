@@ -1,8 +1,6 @@
 // Test program: reads job lists from standard input, each after its length in four bytes, little-endian, and prints for each what the renderer prints,
 // then a line `-`. It ends at a list that is cut short or has more than 70,000 bytes, and prints nothing for that one.
 ghost use Prim.Native.Nat.{_≤_};
-use libc::STDIN_FILENO;
-use libc::STDOUT_FILENO;
 
 // A proved loop has to end, and nothing says that the input does: so the turns are counted down, from a number that no run uses up.
 fn main() {
@@ -15,7 +13,7 @@ fn main() {
 // Prints the text of the next list, and answers whether there may be more.
 fn print_next() -> bool {
     let mut length = [0u8; 4];
-    if io::read_full(STDIN_FILENO, &mut length) < 4 {
+    if !streams::fill(b"lists", &mut length) {
         return false;
     }
     let n = word(&length);
@@ -35,8 +33,7 @@ fn print_list(n: usize) -> bool
     requires { ⌜ n ≤ 70000 ⌝ }
 {
     let mut list = [0u8; 70000];
-    let read = io::read_full(STDIN_FILENO, &mut list[0..n]);
-    if read < n {
+    if !streams::fill(b"lists", &mut list[0..n]) {
         return false;
     }
     print_first(&list, n)
@@ -52,6 +49,6 @@ fn print_text(list: &[u8]) -> bool {
     let mut space = [0u8; render::ROOM];
     let text: &mut [u8] = &mut space;
     let written = render::render(list, text);
-    let is_written = io::write_all(STDOUT_FILENO, testing::front(text, render::count(written)));
-    is_written & io::write_all(STDOUT_FILENO, b"-\n")
+    streams::write(b"lists", testing::front(text, render::count(written)))
+        && streams::write(b"lists", b"-\n")
 }

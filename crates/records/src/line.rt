@@ -3,10 +3,9 @@
 use jobs::Asked;
 use jobs::Job;
 use jobs::Settings;
-use libc::STDOUT_FILENO;
 
-// The line of one job record.
-pub(crate) fn say(job: Job) {
+// The line of one job record; answers whether it was written.
+pub(crate) fn say(job: Job) -> bool {
     let mut space = [0u8; 144];
     let text: &mut [u8] = &mut space;
     let asked = job.asked;
@@ -16,7 +15,7 @@ pub(crate) fn say(job: Job) {
         Asked::Play(settings) => put_settings(text, settings, job.block_length),
     };
     let end = put_registration(text, settings, registration);
-    io::write_all(STDOUT_FILENO, testing::front(text, end));
+    streams::write(b"records", testing::front(text, end))
 }
 
 // The kind and the block length, with which a line begins.

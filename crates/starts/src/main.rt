@@ -1,7 +1,5 @@
 // Test program: prints the states that each oscillator starts from. Then reads records of 44 bytes from standard input, a state's ten words and a phase,
 // and prints for each what the three forms of the variable shape's `set_master_phase` answered and left. A last record that is not whole is left out.
-use libc::STDIN_FILENO;
-
 mod fields;
 mod record;
 mod setting;
@@ -9,19 +7,20 @@ mod starting;
 
 // A proved loop has to end, and nothing says that the input does: so the turns are counted down, from a number that no run uses up.
 fn main() {
-    starting::say_all();
+    if !starting::say_all() {
+        return;
+    }
     let mut turns = u64::MAX;
     while turns > 0 && answer_next() {
         turns -= 1;
     }
 }
 
-// Prints the line of the next record, and answers whether there was one.
+// Prints the line of the next record, and answers whether there may be more.
 fn answer_next() -> bool {
     let mut input = [0u8; 44];
-    let is_whole = io::read_full(STDIN_FILENO, &mut input) == 44;
-    if is_whole {
-        setting::say_forms(record::state_words(&input), record::phase(&input));
+    if !streams::fill(b"starts", &mut input) {
+        return false;
     }
-    is_whole
+    setting::say_forms(record::state_words(&input), record::phase(&input))
 }

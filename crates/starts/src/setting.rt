@@ -2,12 +2,11 @@
 ghost use mathlib.Core.Path.{_≡_};
 ghost use Rattle.variable_shape.specs.MasterPhase.{masterPhaseSet, asSetting};
 use crate::fields;
-use libc::STDOUT_FILENO;
 use variable_shape::PhaseSet;
 use variable_shape::State;
 
 // The line: exported, by value and lent, each with its answer and the words that it left.
-pub(crate) fn say_forms(words: [u32; 10], phase: f32) {
+pub(crate) fn say_forms(words: [u32; 10], phase: f32) -> bool {
     let mut space = [0u8; 276];
     let text: &mut [u8] = &mut space;
     let exported = put_exported(text, words, phase);
@@ -15,7 +14,7 @@ pub(crate) fn say_forms(words: [u32; 10], phase: f32) {
     let by_value = put_set(text, exported, set, b' ');
     let lent = set_lent(fields::variable_shape_of(words), phase);
     let end = put_set(text, by_value, lent, b'\n');
-    io::write_all(STDOUT_FILENO, testing::front(text, end));
+    streams::write(b"starts", testing::front(text, end))
 }
 
 // The exported form, over words.

@@ -5,14 +5,14 @@ use Rattle.records.proofs.say_list.Statement.{statement}
 use Rattle.records.proofs.say_list.Tie as tie
 
 abbrev Inv-loop : tie.InvT-loop
-Inv-loop list count k₀ k = Unit {0}
+Inv-loop list count written₀ k₀ written k = Unit {0}
 
 abbrev μ-loop : tie.MeasureT-loop
-μ-loop list count k₀ k = count - k
+μ-loop list count written₀ k₀ written k = count - k
 
 pub say-list-spec : {M : Type 1} → statement M
 say-list-spec =
     tie.close
     (tie.spec
     Inv-loop μ-loop (λ c. tt) (λ c κs. search needs) (λ c κs. search needs) (λ c κs. search needs) (λ c. search needs) (λ c. search needs) (λ c. tt)
-    (λ c. tt))
+    (λ c. tt) (λ c. tt))

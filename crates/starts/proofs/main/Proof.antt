@@ -12,4 +12,6 @@ abbrev μ-loop : tie.MeasureT-loop
 pub main-spec : {M : Type 1} → statement M
 main-spec =
     tie.close
-    (tie.spec Inv-loop μ-loop (λ c κs. search needs) (λ c. tt) (λ c κs. search needs) (λ c. search needs) (λ c. search needs) (λ c. tt) (λ c. tt) (λ c. tt))
+    (tie.spec
+    Inv-loop μ-loop (λ c κs. search needs) (λ c. tt) (λ c. tt) (λ c κs. search needs) (λ c. search needs) (λ c. search needs) (λ c. tt) (λ c. tt)
+    (λ c. tt))
