@@ -1,11 +1,6 @@
-# What speed/run builds, all of it under target/speed. speed/run reads this file; root, here, work, oscillators, pitches, names and files are
-# its own.
+# What speed/run builds, all of it under target/speed. speed/run reads this file after tools/x86_64.sh; root, here, work, oscillators, pitches,
+# names and files are its own.
 # shellcheck shell=sh disable=SC2086,SC2154
-
-# need TOOL REASON: ends where the tool is not there.
-need() {
-    command -v "$1" >/dev/null 2>&1 || die "$1 is not in PATH: $2"
-}
 
 # logged WHAT COMMAND..: what the command prints goes to the log, and only its failure is told.
 logged() {
@@ -20,12 +15,10 @@ compile_for() {
     out=$work/$1
     mkdir -p "$out" || exit 2
     [ "$1" != x86_64 ] || need rt 'it proves and builds the archive and the renderer'
-    if [ "$1" = "$(uname -m)" ]; then
-        cc=cc nm=nm emulator=''
-    else
-        cc=x86_64-linux-gnu-gcc nm=x86_64-linux-gnu-nm emulator='qemu-x86_64 -L /usr/x86_64-linux-gnu'
-        need $cc 'programs are compiled for x86-64 (Debian: apt install gcc-x86-64-linux-gnu)'
-        need qemu-x86_64 'programs for x86-64 run in it on this processor (Debian: apt install qemu-user)'
+    tools_for "$1"
+    cc=cc nm=${prefix}nm
+    if [ "$emulator" ]; then
+        cc=${prefix}gcc
         clang=$(dirname "$(dirname "$(rt doc)")")/on/$(uname -m)/toolchain/bin/clang
         [ -x "$clang" ] || die "the kit has no clang for this processor, which compiles the Rust for x86-64: looked for $clang"
     fi

@@ -103,20 +103,19 @@ static inline struct state started(const struct implementation *by, const struct
     return state;
 }
 
-/* Its answer. The Rust writes none, so that it is 0. */
+/* Its answer. */
 static inline uint32_t render(const struct implementation *by, const struct oscillator *o, uint32_t *state, const struct settings *s, float *out, size_t count)
 {
-    uint32_t result[6] = {0};
+    uint32_t result[NAVULOQU_RESULT_WORDS];
     switch (o->kind) {
     case VARIABLE_SHAPE:
-        by->variable_shape.render(state, s->master_frequency, s->frequency, s->pw, s->waveshape, s->phase_modulation, o->sync, false, out, count, result);
-        break;
-    case VARIABLE_SAW: by->variable_saw.render(state, s->frequency, s->pw, s->waveshape, out, count, result); break;
-    case SUPER_SQUARE: by->super_square.render(state, s->frequency, s->waveshape, out, count, result); break;
-    case NES_TRIANGLE: by->nes_triangle.render(state, s->frequency, NUM_BITS, out, count, result); break;
-    case STRING_SYNTH: by->string_synth.render(state, s->frequency, s->registration, 7, s->gain, out, count, result); break;
+        return by->variable_shape.render(state, s->master_frequency, s->frequency, s->pw, s->waveshape, s->phase_modulation, o->sync, false, out, count, result);
+    case VARIABLE_SAW: return by->variable_saw.render(state, s->frequency, s->pw, s->waveshape, out, count, result);
+    case SUPER_SQUARE: return by->super_square.render(state, s->frequency, s->waveshape, out, count, result);
+    case NES_TRIANGLE: return by->nes_triangle.render(state, s->frequency, NUM_BITS, out, count, result);
+    case STRING_SYNTH: return by->string_synth.render(state, s->frequency, s->registration, 7, s->gain, out, count, result);
     }
-    return result[0];
+    return NAVULOQU_BAD_PARAM; /* there is no such kind */
 }
 
 /* A unit: each block's part of the buffer is cleared, then rendered. The answers, or'ed. */

@@ -1,5 +1,6 @@
-/* The implementations that are measured: functions of the face's shape, as include/navuloqu.h declares them, under a prefix each. The first
- * is the one that the others are held to. -D'IMPLEMENTATIONS(X)=X(rust) X(again) X(other)' names others. */
+/* The implementations that are measured: functions of the face's shape, as include/navuloqu.h declares them, under a prefix each; under
+ * `navuloqu` these are the header's own names, which stand for the archive's. The first is the one that the others are held to.
+ * -D'IMPLEMENTATIONS(X)=X(rust) X(again) X(other)' names others. */
 #ifndef IMPLEMENTATIONS_H
 #define IMPLEMENTATIONS_H
 

@@ -1,6 +1,6 @@
 //! The ported Rust behind functions of the face's shape (include/navuloqu.h), for bench.c to call. The state is the oscillator
-//! itself in place of words, and no result is written: the original neither refuses nor counts. The environment's PREFIX begins
-//! the names, so that it can be linked twice.
+//! itself in place of words, no result is written, and every answer is 0: the original neither refuses nor counts. The environment's
+//! PREFIX begins the names, so that it can be linked twice.
 #![no_std]
 #![allow(dead_code)]
 #![allow(clippy::missing_safety_doc, clippy::too_many_arguments)]
@@ -8,6 +8,8 @@
 use core::slice::{from_raw_parts, from_raw_parts_mut};
 
 include!("original.rs");
+
+const DONE: u32 = 0;
 
 macro_rules! init {
     ($name:ident, $oscillator:ty) => {
@@ -33,8 +35,9 @@ pub unsafe extern "C" fn nes_triangle_render(
     out: *mut f32,
     count: usize,
     _result: *mut u32,
-) {
-    (*state).render(frequency, from_raw_parts_mut(out, count), num_bits)
+) -> u32 {
+    (*state).render(frequency, from_raw_parts_mut(out, count), num_bits);
+    DONE
 }
 
 #[export_name = concat!(env!("PREFIX"), "_string_synth_render")]
@@ -47,14 +50,15 @@ pub unsafe extern "C" fn string_synth_render(
     out: *mut f32,
     count: usize,
     _result: *mut u32,
-) {
+) -> u32 {
     let registration = from_raw_parts(registration, registration_count);
     (*state).render(
         frequency,
         registration,
         gain,
         from_raw_parts_mut(out, count),
-    )
+    );
+    DONE
 }
 
 #[export_name = concat!(env!("PREFIX"), "_super_square_render")]
@@ -65,8 +69,9 @@ pub unsafe extern "C" fn super_square_render(
     out: *mut f32,
     count: usize,
     _result: *mut u32,
-) {
-    (*state).render(frequency, shape, from_raw_parts_mut(out, count))
+) -> u32 {
+    (*state).render(frequency, shape, from_raw_parts_mut(out, count));
+    DONE
 }
 
 #[export_name = concat!(env!("PREFIX"), "_variable_saw_render")]
@@ -78,8 +83,9 @@ pub unsafe extern "C" fn variable_saw_render(
     out: *mut f32,
     count: usize,
     _result: *mut u32,
-) {
-    (*state).render(frequency, pw, waveshape, from_raw_parts_mut(out, count))
+) -> u32 {
+    (*state).render(frequency, pw, waveshape, from_raw_parts_mut(out, count));
+    DONE
 }
 
 #[export_name = concat!(env!("PREFIX"), "_variable_shape_render")]
@@ -95,7 +101,7 @@ pub unsafe extern "C" fn variable_shape_render(
     out: *mut f32,
     count: usize,
     _result: *mut u32,
-) {
+) -> u32 {
     let out = from_raw_parts_mut(out, count);
     (*state).render(
         master_frequency,
@@ -106,5 +112,6 @@ pub unsafe extern "C" fn variable_shape_render(
         out,
         sync,
         phase_output,
-    )
+    );
+    DONE
 }
