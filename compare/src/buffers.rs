@@ -7,8 +7,11 @@ use crate::random::Random;
 
 const WORDS: usize = 8;
 
+// The archive's names carry the version of include/navuloqu.h, whose declarations these are.
 extern "C" {
+    #[link_name = "navuloqu_1_string_synth_init"]
     fn navuloqu_string_synth_init(state: *mut [u32; WORDS]);
+    #[link_name = "navuloqu_1_string_synth_render"]
     fn navuloqu_string_synth_render(
         state: *mut [u32; WORDS],
         frequency: f32,
@@ -18,7 +21,7 @@ extern "C" {
         out: *mut f32,
         count: usize,
         result: *mut [u32; 6],
-    );
+    ) -> u32;
 }
 
 /// Any bits, every other sample one of those that matter.
@@ -63,7 +66,7 @@ pub fn compare(count: u64, seed: u64) -> Result<String, String> {
         let (mut got, mut expected) = (given.clone(), given.clone());
         let mut original = StringSynthOscillator::from_words(&words);
         let (before, mut result) = (words, [0; 6]);
-        unsafe {
+        let answer = unsafe {
             navuloqu_string_synth_render(
                 &mut words,
                 frequency,
@@ -73,13 +76,19 @@ pub fn compare(count: u64, seed: u64) -> Result<String, String> {
                 got.as_mut_ptr(),
                 length,
                 &mut result,
-            );
+            )
+        };
+        if answer != result[0] {
+            return Err(format!(
+                "block {block}: {answer} is returned, and {} written",
+                result[0]
+            ));
         }
-        let after = if result[0] == 0 && length > 0 {
+        let after = if answer == 0 && length > 0 {
             original.render(frequency, &registration, gain, &mut expected);
             original.to_words()
         } else {
-            refused += u64::from(result[0] != 0);
+            refused += u64::from(answer != 0);
             before.to_vec()
         };
         let bits = |all: &[f32]| all.iter().map(|x| x.to_bits()).collect::<Vec<u32>>();
