@@ -1,0 +1,55 @@
+/* What stands around each call: MXCSR is set before it and looked at after it, and beside what a call may write stand words that it may
+ * not. */
+#ifndef AROUND_H
+#define AROUND_H
+
+#include <string.h>
+#include <xmmintrin.h>
+
+#include "answers.h"
+#include "navuloqu.h"
+
+/* An odd number of words, so that nothing that is handed over is aligned to more than a word: the header asks for no more. */
+#define FENCE 17
+#define FENCED(words) (FENCE + (words) + FENCE)
+#define FENCE_BYTE 0xa5
+
+/* In memory of FENCED(words) words. */
+static inline void put_fences(void *memory, size_t words)
+{
+    unsigned char *bytes = (unsigned char *)memory;
+    memset(bytes, FENCE_BYTE, 4 * FENCE);
+    memset(bytes + 4 * (FENCE + words), FENCE_BYTE, 4 * FENCE);
+}
+
+static inline bool fences_stand(const void *memory, size_t words)
+{
+    const unsigned char *before = (const unsigned char *)memory, *after = before + 4 * (FENCE + words);
+    for (size_t i = 0; i < 4 * FENCE; i++)
+        if (before[i] != FENCE_BYTE || after[i] != FENCE_BYTE)
+            return false;
+    return true;
+}
+
+#define MXCSR_FLAGS 0x3fu /* the exceptions that came up */
+
+/* Before a call: what it returns is handed to `leave`. MXCSR is set by the compiler's own function, so that the header's guard is held to
+ * something else than itself. */
+static inline uint32_t enter(const struct control *control)
+{
+    _mm_setcsr(control->word);
+    return control->is_guarded ? navuloqu_guard_begin() : 0;
+}
+
+/* After it: whether MXCSR is as it was. The guard puts back the flags too; without it a call may raise some. */
+static inline bool leave(const struct control *control, uint32_t kept)
+{
+    const uint32_t passed_over = control->is_guarded ? 0 : MXCSR_FLAGS;
+    if (control->is_guarded)
+        navuloqu_guard_end(kept);
+    const uint32_t left = _mm_getcsr();
+    _mm_setcsr(MXCSR_START);
+    return (left | passed_over) == (control->word | passed_over);
+}
+
+#endif

@@ -1,0 +1,156 @@
+/* Answers call records through navuloqu.h, as crates/calls does. compare/src/calls/record.rs has a record's fields, compare/README.md its
+ * line. */
+#include "around.h"
+#include "lines.h"
+
+#define LONGEST_TRIED 8192 /* twice what is answered: a longer block gets no call, and the line '-' */
+#define MOST_WORDS NAVULOQU_VARIABLE_SHAPE_WORDS
+#define MOST_ENTRIES (NAVULOQU_REGISTRATION_ENTRIES + 1)
+
+/* Where a record's parameters stand. */
+enum {
+    FLAGS_AT = 1,
+    LENGTH_AT = 2,
+    BITS_AT = 4,
+    FREQUENCY_AT = 8,
+    MASTER_FREQUENCY_AT = 12,
+    GAIN_AT = 12,
+    PW_AT = 16,
+    SHAPE_AT = 16,
+    WAVESHAPE_AT = 20,
+    PHASE_MODULATION_AT = 24,
+    REGISTRATION_AT = 28,
+    ENTRIES_AT = 56,
+    BUFFER_AT = 60,
+    STATE_AT = 64
+};
+
+static uint32_t state_room[FENCED(MOST_WORDS)], result_room[FENCED(NAVULOQU_RESULT_WORDS)];
+static float out_room[FENCED(LONGEST_TRIED)];
+static uint32_t *const state = state_room + FENCE, *const result = result_room + FENCE;
+static float *const out = out_room + FENCE;
+
+static uint32_t call_variable_shape(const unsigned char *record, size_t count)
+{
+    const bool sync = (record[FLAGS_AT] & 1) != 0, phase_output = (record[FLAGS_AT] & 2) != 0;
+    return navuloqu_variable_shape_render(state, float_at(record, MASTER_FREQUENCY_AT), float_at(record, FREQUENCY_AT),
+                                          float_at(record, PW_AT), float_at(record, WAVESHAPE_AT),
+                                          float_at(record, PHASE_MODULATION_AT), sync, phase_output, out, count, result);
+}
+
+static uint32_t call_variable_saw(const unsigned char *record, size_t count)
+{
+    return navuloqu_variable_saw_render(state, float_at(record, FREQUENCY_AT), float_at(record, PW_AT), float_at(record, WAVESHAPE_AT),
+                                        out, count, result);
+}
+
+static uint32_t call_super_square(const unsigned char *record, size_t count)
+{
+    return navuloqu_super_square_render(state, float_at(record, FREQUENCY_AT), float_at(record, SHAPE_AT), out, count, result);
+}
+
+static uint32_t call_nes_triangle(const unsigned char *record, size_t count)
+{
+    return navuloqu_nes_triangle_render(state, float_at(record, FREQUENCY_AT), word_at(record, BITS_AT), out, count, result);
+}
+
+/* 0 to 8 entries are handed over: the record has seven, and an eighth is 0. */
+static uint32_t call_string_synth(const unsigned char *record, size_t count)
+{
+    const uint32_t asked = word_at(record, ENTRIES_AT);
+    const size_t entries = asked < MOST_ENTRIES ? asked : MOST_ENTRIES;
+    float registration[MOST_ENTRIES] = {0};
+    for (size_t i = 0; i < NAVULOQU_REGISTRATION_ENTRIES; i++)
+        registration[i] = float_at(record, REGISTRATION_AT + 4 * i);
+    return navuloqu_string_synth_render(state, float_at(record, FREQUENCY_AT), registration, entries, float_at(record, GAIN_AT), out, count,
+                                        result);
+}
+
+/* By a record's first byte. */
+#define STRING_SYNTH 5
+static const struct {
+    uint32_t (*call)(const unsigned char *record, size_t count);
+    size_t words;
+} kinds[] = {
+    {NULL, 0},
+    {call_variable_shape, NAVULOQU_VARIABLE_SHAPE_WORDS},
+    {call_variable_saw, NAVULOQU_VARIABLE_SAW_WORDS},
+    {call_super_square, NAVULOQU_SUPER_SQUARE_WORDS},
+    {call_nes_triangle, NAVULOQU_NES_TRIANGLE_WORDS},
+    {call_string_synth, NAVULOQU_STRING_SYNTH_WORDS},
+};
+#define KINDS (sizeof kinds / sizeof *kinds)
+
+/* The state of the record; every sample as the record has it, or else in turn 0.25 to 2; and a result of which each word has to be
+ * written. */
+static void fill(const unsigned char *record, size_t words, size_t count)
+{
+    const uint32_t bits = word_at(record, BUFFER_AT);
+    put_fences(state_room, words);
+    put_fences(result_room, NAVULOQU_RESULT_WORDS);
+    put_fences(out_room, count);
+    memset(result, 0xff, sizeof *result * NAVULOQU_RESULT_WORDS);
+    for (size_t i = 0; i < words; i++)
+        state[i] = word_at(record, STATE_AT + 4 * i);
+    for (size_t i = 0; i < count; i++)
+        out[i] = bits != 0 ? float_of(bits) : (float)(i % 8 + 1) / 4;
+}
+
+/* Over the bits of every sample in turn; any NaN counts as the same. */
+static uint32_t checksum(size_t count)
+{
+    uint64_t sum = 0;
+    for (size_t i = 0; i < count; i++) {
+        uint32_t bits;
+        memcpy(&bits, &out[i], sizeof bits);
+        sum = (sum * 1000003 + ((bits & 0x7fffffff) > 0x7f800000 ? 0x7fc00000 : bits)) % 4294967291;
+    }
+    return (uint32_t)sum;
+}
+
+/* The answer is returned and written: where the two differ there is no such number. */
+static void put_outcome(char line[LINE_ROOM], uint32_t answer, size_t words, size_t count)
+{
+    static const int counted[] = {NAVULOQU_RESULT_DRIFT_INDEX, NAVULOQU_RESULT_CYCLES, NAVULOQU_RESULT_RISES, NAVULOQU_RESULT_FALLS,
+                                  NAVULOQU_RESULT_CUTS};
+    const uint32_t sum = checksum(count);
+    size_t at = answer == result[NAVULOQU_RESULT_ANSWER] ? put_number(line, 0, answer) : put_text(line, 0, "? ");
+    for (size_t i = 0; i < sizeof counted / sizeof *counted; i++)
+        at = put_number(line, at, result[counted[i]]);
+    at = put_words(line, at, state, words, ' ');
+    put_words(line, at, &sum, 1, '\n');
+}
+
+/* NULL where the call kept to what is its own, and the header's limits are those at which it answers so. */
+static const char *fault_of(const unsigned char *record, uint32_t answer, size_t words, size_t count)
+{
+    const bool is_long = count > NAVULOQU_LONGEST_BLOCK;
+    const bool is_misfit = !is_long && record[0] == STRING_SYNTH && word_at(record, ENTRIES_AT) != NAVULOQU_REGISTRATION_ENTRIES;
+    if (!fences_stand(state_room, words))
+        return "a word beside the state's is changed";
+    if (!fences_stand(result_room, NAVULOQU_RESULT_WORDS))
+        return "a word beside the result's is changed";
+    if (!fences_stand(out_room, count))
+        return "a word beside the samples is changed";
+    if ((answer == NAVULOQU_LONG_BLOCK) != is_long)
+        return "the longest block is not NAVULOQU_LONGEST_BLOCK";
+    if ((answer == NAVULOQU_BAD_REGISTRATION) != is_misfit)
+        return "the registration's length is not NAVULOQU_REGISTRATION_ENTRIES";
+    return NULL;
+}
+
+const char *answer_call(const struct control *control, const unsigned char record[CALL_BYTES], char line[LINE_ROOM])
+{
+    const size_t kind = record[0], count = (size_t)record[LENGTH_AT] | (size_t)record[LENGTH_AT + 1] << 8;
+    if (kind >= KINDS || !kinds[kind].call || count > LONGEST_TRIED) {
+        put_text(line, 0, "-\n");
+        return NULL;
+    }
+    fill(record, kinds[kind].words, count);
+    const uint32_t kept = enter(control);
+    const uint32_t answer = kinds[kind].call(record, count);
+    if (!leave(control, kept))
+        return "MXCSR is changed";
+    put_outcome(line, answer, kinds[kind].words, count);
+    return fault_of(record, answer, kinds[kind].words, count);
+}
