@@ -41,10 +41,11 @@
  * an answered block that is not empty, which only next_sample can be, is the word 0x7fc00000.
  *
  * Of the caller is asked:
- *   - Pointers are valid for what is said of them here, and do not overlap; a bool is 0 or 1.
+ *   - Pointers are valid for what is said of them here, whatever the answer, and do not overlap; none is null, also where a count is 0. A
+ *     bool is 0 or 1.
  *   - The floating-point environment is the one that a program starts with: rounding to nearest, ties to even; no flush to zero, no
  *     denormals as zero; exceptions masked. Hosts of plug-ins often set flush to zero and denormals as zero, and then samples and states
- *     differ; a trap ends the program. navuloqu_guard_begin and navuloqu_guard_end, below, see to it.
+ *     differ; a trap ends the program. navuloqu_guard_begin and navuloqu_guard_end, below, see to it. Calls may raise exception flags.
  * Nothing else: every bit pattern of every float, whole number and state word is answered.
  *
  * A shared library that is linked with the archive should keep its names to itself, or two plug-ins in one host may call each other's:
@@ -75,13 +76,13 @@ extern "C" {
 #define navuloqu_string_synth_init navuloqu_1_string_synth_init
 #define navuloqu_string_synth_render navuloqu_1_string_synth_render
 
-/* Whoever does not look at the answer is warned by the compiler. */
+/* Whoever does not look at what is returned is warned by the compiler. */
 #if (defined(__cplusplus) && __cplusplus >= 201703L) || (defined(__STDC_VERSION__) && __STDC_VERSION__ > 201710L)
-#define NAVULOQU_ANSWER [[nodiscard]] uint32_t
+#define NAVULOQU_MUST_USE [[nodiscard]]
 #elif defined(__GNUC__)
-#define NAVULOQU_ANSWER __attribute__((warn_unused_result)) uint32_t
+#define NAVULOQU_MUST_USE __attribute__((warn_unused_result))
 #else
-#define NAVULOQU_ANSWER uint32_t
+#define NAVULOQU_MUST_USE
 #endif
 
 /* The answers. */
@@ -121,14 +122,15 @@ static inline const char *navuloqu_answer_name(uint32_t answer)
 #define NAVULOQU_RESULT_WORDS 6
 
 /* The floating-point environment. Between the two calls floats are computed as the oscillators need it, in this thread; the second puts back
- * what was there before. They cost a few nanoseconds: once around all calls of a block is enough.
+ * what was there before, exception flags too. `render` and `set_master_phase` need it, `init` does not. Once around all calls of a block is
+ * enough.
  *
  *     const uint32_t control = navuloqu_guard_begin();
  *     const uint32_t answer = navuloqu_super_square_render(state, frequency, shape, out, count, result);
  *     navuloqu_guard_end(control); */
 #if defined(__x86_64__)
 /* Sets MXCSR to what a program starts with: nearest-even, nothing flushed, exceptions masked. Returns what it was. */
-static inline uint32_t navuloqu_guard_begin(void)
+NAVULOQU_MUST_USE static inline uint32_t navuloqu_guard_begin(void)
 {
     const uint32_t needed = 0x1f80;
     uint32_t control;
@@ -151,7 +153,7 @@ static inline void navuloqu_guard_end(uint32_t control)
 void navuloqu_variable_shape_init(uint32_t state[NAVULOQU_VARIABLE_SHAPE_WORDS]);
 
 /* A refused block leaves what `out` held: used again, the buffer repeats the last block. */
-NAVULOQU_ANSWER navuloqu_variable_shape_render(
+NAVULOQU_MUST_USE uint32_t navuloqu_variable_shape_render(
     uint32_t state[NAVULOQU_VARIABLE_SHAPE_WORDS], /* read; after answer 0 the state that the block left */
     float master_frequency,                        /* in cycles per sample: 0.000001 to 1, also without `sync`; above 0.25 as 0.25 */
     float frequency,                               /* the slave's, in cycles per sample: 0.000001 to 1; above 0.25 as 0.25 */
@@ -166,7 +168,7 @@ NAVULOQU_ANSWER navuloqu_variable_shape_render(
 
 /* Sets the master's phase. Returns NAVULOQU_DONE, and state[0] is the phase bit by bit; or NAVULOQU_BAD_PARAM where the phase is not
  * from 0 to below 1, and no word has changed. The other words are neither tested nor touched. */
-NAVULOQU_ANSWER navuloqu_variable_shape_set_master_phase(
+NAVULOQU_MUST_USE uint32_t navuloqu_variable_shape_set_master_phase(
     uint32_t state[NAVULOQU_VARIABLE_SHAPE_WORDS],
     float phase); /* at least 0 and below 1 */
 
@@ -176,7 +178,7 @@ NAVULOQU_ANSWER navuloqu_variable_shape_set_master_phase(
 void navuloqu_variable_saw_init(uint32_t state[NAVULOQU_VARIABLE_SAW_WORDS]);
 
 /* A refused block leaves what `out` held: used again, the buffer repeats the last block. */
-NAVULOQU_ANSWER navuloqu_variable_saw_render(
+NAVULOQU_MUST_USE uint32_t navuloqu_variable_saw_render(
     uint32_t state[NAVULOQU_VARIABLE_SAW_WORDS], /* read; after answer 0 the state that the block left */
     float frequency,                             /* in cycles per sample: 0.000001 to 1; above 0.25 as 0.25 */
     float pw,                                    /* the pulse width: 0 to 1, clamped by the frequency */
@@ -191,7 +193,7 @@ NAVULOQU_ANSWER navuloqu_variable_saw_render(
 void navuloqu_super_square_init(uint32_t state[NAVULOQU_SUPER_SQUARE_WORDS]);
 
 /* A refused block leaves what `out` held: used again, the buffer repeats the last block. */
-NAVULOQU_ANSWER navuloqu_super_square_render(
+NAVULOQU_MUST_USE uint32_t navuloqu_super_square_render(
     uint32_t state[NAVULOQU_SUPER_SQUARE_WORDS], /* read; after answer 0 the state that the block left */
     float frequency,                             /* the master's, in cycles per sample: 0.000001 to 1; above 0.25 as 0.25 */
     float shape,                                 /* 0 to 1: the slave runs 0.51 to 5 times as fast, at most at 0.25 */
@@ -205,7 +207,7 @@ NAVULOQU_ANSWER navuloqu_super_square_render(
 void navuloqu_nes_triangle_init(uint32_t state[NAVULOQU_NES_TRIANGLE_WORDS]);
 
 /* A refused block leaves what `out` held: used again, the buffer repeats the last block. */
-NAVULOQU_ANSWER navuloqu_nes_triangle_render(
+NAVULOQU_MUST_USE uint32_t navuloqu_nes_triangle_render(
     uint32_t state[NAVULOQU_NES_TRIANGLE_WORDS], /* read; after answer 0 the state that the block left */
     float frequency,                             /* in cycles per sample: 0.000001 to 1; above 0.25 as 0.25 */
     uint32_t num_bits,                           /* 1 to 16: a cycle has 2^num_bits steps */
@@ -219,7 +221,7 @@ NAVULOQU_ANSWER navuloqu_nes_triangle_render(
 void navuloqu_string_synth_init(uint32_t state[NAVULOQU_STRING_SYNTH_WORDS]);
 
 /* A refused block adds nothing to `out`: used again without being cleared, the buffer repeats the last block. */
-NAVULOQU_ANSWER navuloqu_string_synth_render(
+NAVULOQU_MUST_USE uint32_t navuloqu_string_synth_render(
     uint32_t state[NAVULOQU_STRING_SYNTH_WORDS], /* read; after answer 0 the state that the block left */
     float frequency,                             /* in cycles per sample: 0.000001 to 0.5; above that, up to 1, NAVULOQU_TOO_HIGH */
     const float *registration,                   /* 0 to 1 each: saw 8', square 8', saw 4', square 4', saw 2', square 2', saw 1' */

@@ -1,5 +1,5 @@
-/* Ignores the answer of every function of navuloqu.h that has one: the compiler has to warn of each. With -DLOOKED_AT it looks at them, and
- * has to compile. It is never run. */
+/* Ignores what each function of navuloqu.h returns that has to be looked at, the answers and the guard's word: the compiler has to warn of each.
+ * With -DLOOKED_AT it looks at them, and has to compile. It is never run. */
 #include "navuloqu.h"
 
 #ifdef LOOKED_AT
@@ -20,5 +20,6 @@ uint32_t all_answers(uint32_t *state, float *out, uint32_t *result)
     CALLED(navuloqu_super_square_render(state, 0.01f, 0, out, 1, result));
     CALLED(navuloqu_nes_triangle_render(state, 0.01f, 4, out, 1, result));
     CALLED(navuloqu_string_synth_render(state, 0.01f, registration, NAVULOQU_REGISTRATION_ENTRIES, 1, out, 1, result));
+    CALLED(navuloqu_guard_begin());
     return answers;
 }
