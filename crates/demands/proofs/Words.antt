@@ -1,6 +1,6 @@
 -- What is promised over words, for the five. Assumes nothing.
 use mathlib.Core.Path.{_≡_, refl}
-use mathlib.Core.Bool.{Bool, cond}
+use mathlib.Core.Bool.{Bool, false, cond}
 use mathlib.Core.Logic.{inr}
 use mathlib.Core.List.{List, []}
 use Prim.Native.Nat.{ℕ, _≤_}
@@ -15,7 +15,7 @@ use Rattle.variable_saw.specs.Block.{variableSaw}
 use Rattle.nes_triangle.specs.Block.{nesTriangle}
 use Rattle.string_synth.specs.Block.{stringSynth}
 use Rattle.words.specs.Face.{Face, faceOf, noBool, refusedFace, noState, AnsweredOrKept}
-use Rattle.words.proofs.Faces.{answered-or-kept, empty-face, either-way}
+use Rattle.words.proofs.Faces.{answered-or-kept, empty-face, either-way, returned-first}
 use Rattle.super_square_face.specs.Words as SuperSquare
 use Rattle.variable_shape_face.specs.Words as Shape
 use Rattle.variable_saw_face.specs.Words as Saw
@@ -23,7 +23,7 @@ use Rattle.nes_triangle_face.specs.Words as Nes
 use Rattle.nes_triangle_face.proofs.BadWords.{negative-step}
 use Rattle.string_synth_face.specs.Words as String
 use Rattle.string_synth_face.proofs.BadWords.{negative-segment}
-use Rattle.demands.specs.Words.{Rendering, BadBool, Negative, Kept}
+use Rattle.demands.specs.Words.{Rendering, BadBool, Negative, Kept, Returned}
 
 -- ---- a word for a bool that is neither 0 nor 1
 pub super-square-bad-bool : (frequency shape : Float) → BadBool 3 (λ w. SuperSquare.renderFace w frequency shape)
@@ -80,3 +80,20 @@ nes-triangle-kept frequency bits = kept 3 (called nesTriangle Nes.wordsOf Nes.st
 
 pub string-synth-kept : (frequency : Float) (registration : List Float) (gain : Float) → Kept (λ w. String.renderFace w frequency registration gain)
 string-synth-kept frequency registration gain = called stringSynth String.wordsOf String.stateOf _ (λ xs. refl)
+
+-- ---- what is returned
+pub super-square-returned : (frequency shape : Float) → Returned (λ w. SuperSquare.renderFace w frequency shape)
+super-square-returned frequency shape w xs = returned-first SuperSquare.wordsOf (noBool (getD w 3 0)) w xs _
+
+pub variable-shape-returned : (masterFrequency frequency pw waveshape phaseModulation : Float) (sync phaseOutput : Bool)
+    → Returned (λ w. Shape.renderFace w masterFrequency frequency pw waveshape phaseModulation sync phaseOutput)
+variable-shape-returned masterFrequency frequency pw waveshape phaseModulation sync phaseOutput w xs = returned-first Shape.wordsOf (noBool (getD w 4 0)) w xs _
+
+pub variable-saw-returned : (frequency pw waveshape : Float) → Returned (λ w. Saw.renderFace w frequency pw waveshape)
+variable-saw-returned frequency pw waveshape w xs = returned-first Saw.wordsOf (noBool (getD w 3 0)) w xs _
+
+pub nes-triangle-returned : (frequency : Float) (bits : ℕ) → Returned (λ w. Nes.renderFace w frequency bits)
+nes-triangle-returned frequency bits w xs = returned-first Nes.wordsOf (noBool (getD w 3 0)) w xs _
+
+pub string-synth-returned : (frequency : Float) (registration : List Float) (gain : Float) → Returned (λ w. String.renderFace w frequency registration gain)
+string-synth-returned frequency registration gain w xs = returned-first String.wordsOf false w xs _

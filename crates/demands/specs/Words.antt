@@ -1,5 +1,5 @@
 -- What is promised over words, to a caller in another language. What such a call leaves is `renderFace` in specs/Words.antt of each face, the contract of each exported function: the
--- oscillator's own call, put into words. Here, of that: which words are refused as a bad state, and when words stay. Assumes nothing.
+-- oscillator's own call, put into words. Here, of that: which words are refused as a bad state, when words stay, and what is returned. Assumes nothing.
 use mathlib.Core.Path.{_≡_}
 use mathlib.Core.List.{List, []}
 use Prim.Native.Nat.{ℕ, _≤_, _<_}
@@ -23,3 +23,7 @@ Negative place render = (w : List ℕ) (xs : List Float) → 0x8000_0000 ≤ get
 pub record Kept (render : Rendering) : Type 0 where
   pub refused : (w : List ℕ) (xs : List Float) → AnsweredOrKept w xs (render w xs)
   pub empty : (w : List ℕ) → render w [] .words ≡ w
+
+-- the answer that is returned is the result's first word, whichever a caller looks at
+abbrev pub Returned : Rendering → Type 0
+Returned render = (w : List ℕ) (xs : List Float) → render w xs .answer ≡ getD (render w xs .result) 0 0

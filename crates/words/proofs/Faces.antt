@@ -6,6 +6,7 @@ use mathlib.Core.List.{List, [], _∷_}
 use Prim.Native.Nat.{ℕ}
 use lib.Dec.{leb, eqb}
 use lib.ListN.{length, getD}
+use lib.Ieee.{Float}
 use borrow.Author.Tests.{eqb-true}
 use Rattle.block.specs.Calls.{Call, refusal}
 use Rattle.block.specs.Checks.{Check, FirstFailing, here, later, _unless_}
@@ -20,6 +21,13 @@ pub face-is : {S : Type 0} (wordsOf : S → List ℕ) (given : List ℕ) {c d : 
     → record { answer = getD result 0 0; words = kept; result = result; samples = c .samples } ≡ faceOf wordsOf given d
 unfolding faceOf
 face-is wordsOf given e at-stored at-after at-kept at-result = rw (at-kept, at-stored, at-after, at-result) (ap (faceOf wordsOf given) e)
+
+-- the answer that is returned is the result's first word, of words that are no state too
+pub returned-first : {S : Type 0} (wordsOf : S → List ℕ) (bad : Bool) (given : List ℕ) (xs : List Float) (c : Call S)
+    → cond bad (noState given xs) (faceOf wordsOf given c) .answer ≡ getD (cond bad (noState given xs) (faceOf wordsOf given c) .result) 0 0
+unfolding faceOf
+returned-first wordsOf true given xs c = refl
+returned-first wordsOf false given xs c = refl
 
 module _ {S A : Type 0} (o : Oscillator S A) (wordsOf : S → List ℕ) (w : List ℕ) (s : S) (a : A) where
   -- a call that a check refuses: the words and the samples stay
