@@ -27,5 +27,9 @@ int main(void)
         printf("frequency %-12.8g answer %u (%s), %u cycles, %u rises, peak %.3f\n", frequencies[i], (unsigned)answer, navuloqu_answer_name(answer),
                (unsigned)result[NAVULOQU_RESULT_CYCLES], (unsigned)result[NAVULOQU_RESULT_RISES], peak);
     }
+    if (ferror(stdout) || fflush(stdout) != 0) {
+        perror("sweep: cannot write standard output");
+        return 2;
+    }
     return 0;
 }

@@ -7,6 +7,7 @@
 #include <time.h>
 
 #include "cells.h"
+#include "written.h"
 
 #define IMPLEMENTATION_COUNT COUNT_OF(implementations)
 
@@ -183,5 +184,5 @@ int main(int count, char **words)
     } else {
         fail(2, "usage: bench times REPETITIONS UNITS [WORD..] | bench check UNITS [WORD..] | bench run IMPLEMENTATION OSCILLATOR PITCH BLOCK UNITS");
     }
-    return 0;
+    return written("bench");
 }

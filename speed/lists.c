@@ -3,6 +3,7 @@
 #include <stdio.h>
 
 #include "cells.h"
+#include "written.h"
 
 /* The 64 bytes of a job record, as x86-64 and Arm hold numbers. */
 struct record {
@@ -49,8 +50,7 @@ int main(int count, char **words)
     fill_settings(table, pitch);
     for (size_t i = 0; i < TABLE; i++) {
         struct record r = made(one ? one : &oscillators[i % COUNT_OF(oscillators)], &table[i]);
-        if (fwrite(&r, sizeof r, 1, stdout) != 1)
-            return 2;
+        fwrite(&r, sizeof r, 1, stdout);
     }
-    return fflush(stdout) ? 2 : 0;
+    return written("lists");
 }

@@ -103,17 +103,24 @@ impl Bank {
     }
 }
 
-/// Reads to the end of standard input, or until the buffer is full.
-fn read_list(list: &mut [u8]) -> usize {
+/// Reads to the end of standard input, or until the buffer is full. None where that fails.
+fn read_list(list: &mut [u8]) -> Option<usize> {
     let mut length = 0;
     while length < list.len() {
         let rest = &mut list[length..];
         match unsafe { read(0, rest.as_mut_ptr(), rest.len()) } {
             n if n > 0 => length += n as usize,
-            _ => break,
+            0 => break,
+            _ => return None,
         }
     }
-    length
+    Some(length)
+}
+
+/// One line on standard error, and the status.
+fn fail(line: &[u8]) -> i32 {
+    unsafe { write(2, line.as_ptr(), line.len()) };
+    2
 }
 
 /// Writes the index in decimal and six zeros; the length of the line.
@@ -131,7 +138,9 @@ fn write_line(text: &mut [u8], index: usize) -> usize {
 #[no_mangle]
 pub extern "C" fn main() -> i32 {
     let mut list = [0u8; MOST_RECORDS * RECORD];
-    let length = read_list(&mut list);
+    let Some(length) = read_list(&mut list) else {
+        return fail(b"rust_renderer: cannot read standard input\n");
+    };
     let mut bank = Bank::started();
     let mut text = [0u8; MOST_RECORDS * LINE];
     let mut end = 0;
@@ -142,6 +151,8 @@ pub extern "C" fn main() -> i32 {
         black_box(&mut buffer);
         end += write_line(&mut text[end..], index);
     }
-    let written = unsafe { write(1, text.as_ptr(), end) };
-    (written != end as isize) as i32
+    if unsafe { write(1, text.as_ptr(), end) } != end as isize {
+        return fail(b"rust_renderer: cannot write standard output\n");
+    }
+    0
 }

@@ -8,6 +8,8 @@
 #include <sys/wait.h>
 #include <unistd.h>
 
+#include "written.h"
+
 #define MOST 16
 
 static double milliseconds(struct timeval t)
@@ -57,5 +59,5 @@ int main(int count, char **words)
     for (int i = 1; i < programs; i++)
         printf(" %8.2f | %5.2f |", least[i], least[i] / least[0]);
     puts("");
-    return 0;
+    return written("turns");
 }

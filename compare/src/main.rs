@@ -167,14 +167,13 @@ fn first_difference(what: &str, names: [&str; 3]) -> Result<(), String> {
 /// Says that all agree, or the first difference, which ends the program with status 1.
 fn tell(found: Result<String, String>) -> Result<(), String> {
     match found {
-        Ok(agreed) => println!("{agreed}"),
+        Ok(agreed) => write_out(format!("{agreed}\n").as_bytes()),
         Err(told) => {
             // A difference is what was asked for, and no error of this program: it is told alone.
-            println!("{told}");
+            write_out(format!("{told}\n").as_bytes())?;
             process::exit(1);
         }
     }
-    Ok(())
 }
 
 fn make_lists(lists: impl Iterator<Item = Vec<u8>>) -> Result<(), String> {
@@ -218,8 +217,11 @@ fn expect_starts() -> Result<(), String> {
     write_out(starts::text(&read_records(starts::RECORD_BYTES)?).as_bytes())
 }
 
+/// All of it: what standard output keeps back for a line to end would be lost without a word.
 fn write_out(bytes: &[u8]) -> Result<(), String> {
-    io::stdout().lock().write_all(bytes).map_err(cannot_write)
+    let mut out = io::stdout().lock();
+    out.write_all(bytes).map_err(cannot_write)?;
+    out.flush().map_err(cannot_write)
 }
 
 fn read_input() -> Result<Vec<u8>, String> {
