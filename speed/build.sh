@@ -1,4 +1,4 @@
-# What speed/run builds, all of it under target/speed. speed/run reads this file after tools/x86_64.sh; root, here, work, oscillators, pitches,
+# What speed/run builds, all of it under target/speed. speed/run reads this file after tools/program.sh and tools/x86_64.sh; root, here, work, oscillators, pitches,
 # names and files are its own.
 # shellcheck shell=sh disable=SC2086,SC2154
 
@@ -89,14 +89,18 @@ build_bench() {
 
 # The archive, proved and compiled for x86-64.
 build_archive() {
+    lock_target
     (cd "$root" && logged libnavuloqu.a rt staticlib navuloqu) || exit 2
+    unlock_target
     archive=$root/target/staticlib/libnavuloqu.a
     [ -f "$archive" ] || die "rt staticlib navuloqu left no $archive"
 }
 
 # The renderer, proved; the Rust's; and the lists that they are run on.
 build_renderers() {
+    lock_target
     (cd "$root" && logged 'the renderer' rt check renderer) || exit 2
+    unlock_target
     [ -x "$root/target/bin/renderer" ] || die 'rt check renderer left no target/bin/renderer: remove target/ and try again'
     rust_object renderer rust_renderer
     panics "$out/rust_renderer.o" >"$out/rust_renderer.panics.c"

@@ -1,11 +1,21 @@
 # What a script beside a proved program does: it builds the program once, and runs it so that no failure stays unsaid. A script sets `name`, its own
-# for messages, and `root`, the checkout's folder, and reads this file.
+# for messages, and `root`, the checkout's folder, and reads this file. So do those that build in the checkout for other ends: compare/run, speed/run.
 # shellcheck shell=sh disable=SC2154
 
 # die MESSAGE: one line on standard error, and status 2.
 die() {
     printf '%s: %s\n' "$name" "$*" >&2
     exit 2
+}
+
+# tell_help: what the script's own `help` prints, on standard output, and no more is done. A reader may have enough of it.
+tell_help() {
+    help 2>/dev/null
+    case $? in
+    0) exit 0 ;;
+    141) exit 141 ;;
+    *) die 'cannot write standard output' ;;
+    esac
 }
 
 # streams_open: standard input and output are there. The number of a closed one may be given to the next file that the shell, or on another processor the
@@ -28,22 +38,31 @@ build() {
     program=$root/target/bin/$1 stamp=$root/target/$1-built
     ! is_built || return 0
     command -v rt >/dev/null 2>&1 || die "the program is not built, and rt of the Rattle kit, which builds it, is not in PATH"
-    command -v flock >/dev/null 2>&1 || die "flock, which keeps two builds apart, is not in PATH"
-    mkdir -p "$root/target" 2>/dev/null || die "cannot build the program: $root/target cannot be made"
-    (: >>"$root/target/build-lock") 2>/dev/null || die "cannot build the program: $root/target cannot be written"
-    exec 9>>"$root/target/build-lock"
-    flock -n 9 || wait_for_lock
+    lock_target
     is_built || prove "$1"
-    exec 9>&-
+    unlock_target
 }
 
 is_built() {
     [ -x "$program" ] && [ -e "$stamp" ] && [ -z "$(find "$root/crates" "$root/crates.txt" -newer "$stamp" -print)" ]
 }
 
+# lock_target: until unlock_target no other script builds in this checkout, since rt itself does not keep two runs in one target/ apart.
+lock_target() {
+    command -v flock >/dev/null 2>&1 || die "flock, which keeps two builds apart, is not in PATH"
+    mkdir -p "$root/target" 2>/dev/null || die "cannot build the program: $root/target cannot be made"
+    (: >>"$root/target/build-lock") 2>/dev/null || die "cannot build the program: $root/target cannot be written"
+    exec 9>>"$root/target/build-lock"
+    flock -n 9 || wait_for_lock
+}
+
 wait_for_lock() {
     printf '%s: another build is under way in this checkout; waiting for it\n' "$name" >&2
     flock 9 || die 'cannot lock target/build-lock'
+}
+
+unlock_target() {
+    exec 9>&-
 }
 
 # prove PROGRAM: minutes of silence would look like a hang, so that each crate that is proved is told.
