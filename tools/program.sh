@@ -8,6 +8,12 @@ die() {
     exit 2
 }
 
+# put FORMAT WORD..: printf, which ends the script where standard output does not take it: a shell goes on.
+put() {
+    # shellcheck disable=SC2059
+    printf "$@" 2>/dev/null || die 'cannot write standard output'
+}
+
 # tell_help: what the script's own `help` prints, on standard output, and no more is done. A reader may have enough of it.
 tell_help() {
     help 2>/dev/null
