@@ -1,5 +1,5 @@
-# What speed/run builds, all of it under target/speed. speed/run reads this file after tools/program.sh and tools/x86_64.sh; root, here, work, oscillators, pitches,
-# names and files are its own.
+# What speed/run builds, all of it under target/speed. speed/run reads this file after tools/program.sh and tools/x86_64.sh; root, here, work,
+# oscillators, pitches, names and files are its own.
 # shellcheck shell=sh disable=SC2086,SC2154
 
 # logged WHAT COMMAND..: what the command prints goes to the log, and only its failure is told.
