@@ -2,7 +2,6 @@
 import argparse
 import os
 import shutil
-import signal
 import sys
 
 NAME = os.path.basename(sys.argv[0])
@@ -46,8 +45,7 @@ def finish(status, message=None):
 
 
 def run(help_text, main):
-    """Ends with the status that `main` gives, after all that it printed was written."""
-    signal.signal(signal.SIGPIPE, signal.SIG_DFL)  # ends quietly where the reader of its output has enough
+    """Ends with the status that `main` gives, after all that it printed was written. What ends it before passes through `main`, which removes its copies."""
     try:
         if sys.stdout is None:
             raise Wrong("cannot write standard output: it is closed")
@@ -60,6 +58,8 @@ def run(help_text, main):
         os.close(1)  # some file systems say only here that there was no room
     except Wrong as wrong:
         finish(2, wrong)
+    except BrokenPipeError:
+        finish(141)  # the reader of its output has enough
     except OSError as error:
         finish(2, told(error))
     except KeyboardInterrupt:
