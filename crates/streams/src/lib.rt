@@ -1,6 +1,8 @@
 // Standard input and output, for every program of the repository: a read or a write that fails is one line on standard error, which begins with the
 // program's name and ends with the system's reason. A program of the kit sets no exit status, so that line is how a script sees the failure.
-ghost use Rattle.streams.specs.Input.{Inside};
+ghost use mathlib.Core.Path.{_≡_};
+ghost use lib.ListN.{length};
+ghost use Rattle.streams.specs.Input.{Inside, isFull};
 use libc::STDERR_FILENO;
 use libc::STDIN_FILENO;
 use libc::STDOUT_FILENO;
@@ -50,7 +52,15 @@ fn read_on(buf: &mut [u8]) -> Input
 
 // Whether the input had as many bytes as the buffer holds. Where it ended before, nothing is said: what is left of it is no whole record.
 pub fn fill(program: &[u8], buf: &mut [u8]) -> bool {
-    match read(program, buf) {
+    let input = read(program, buf);
+    is_full(input, buf)
+}
+
+// A read that failed has filled nothing, whatever stands in the buffer.
+fn is_full(input: Input, buf: &[u8]) -> bool
+    ensures { λ r. ⌜ r ≡ isFull input (length (now (buf .entry))) ⌝ }
+{
+    match input {
         Input::Read(n) => n == buf.len(),
         Input::Failed => false,
     }
