@@ -45,7 +45,7 @@ clipped-in low f h l = go (le maxFrequency f) refl
 pub clipped-fits : (f : Float) → T (fits binary32 f) → T (fits binary32 (clipped f))
 clipped-fits f t = cond-fits binary32 (le maxFrequency f) maxFrequency f (maxFrequency-at .fit) t
 
-least-min : le leastTarget minFrequency ≡ true
+pub least-min : le leastTarget minFrequency ≡ true
 unfolding le ofBits
 least-min = refl
 
@@ -53,7 +53,7 @@ pub least-max : le leastTarget maxFrequency ≡ true
 unfolding le ofBits
 least-max = refl
 
-min-at : At minFrequency (8796093 * 2 ^ 106)
+pub min-at : At minFrequency (8796093 * 2 ^ 106)
 unfolding fits ofBits
 min-at = record { fit = tt; reads = refl }
 
@@ -73,7 +73,7 @@ pub frequency-target : (f : Float) → parameterFrequencyIn f ≡ true → withi
 frequency-target f h = clipped-in leastTarget f (le-trans leastTarget minFrequency f least-min (and-both (le minFrequency f) (le f one32) h .0)) least-max
 
 -- ---- a clamp between numbers
-clamp-in : (x low high N W : Float) → isNan x ≡ false → le N low ≡ true → le N high ≡ true → le high W ≡ true → within N W (clampOf x low high) ≡ true
+pub clamp-in : (x low high N W : Float) → isNan x ≡ false → le N low ≡ true → le N high ≡ true → le high W ≡ true → within N W (clampOf x low high) ≡ true
 clamp-in x low high N W X a b c = go (lt high (atLeast x low)) refl
   where
     at-least : (o : Bool) → lt x low ≡ o → (le N (cond o low x) ≡ true) × (isNan (cond o low x) ≡ false)
@@ -122,25 +122,31 @@ module _ {f : Float} {b : ℕ} (F : At f b) (h : b ≤ 4194304 * tick) where
   high-at = sub-at one-at twice-at (omega arith) (lt-of-le-of-lt (rnd-up (at-rnd one-at) (omega arith)) (at-huge one-at))
 
 -- no less than low, which two frequencies reach, and no more than high
-pub width-in : {f low high : Float} {b c d : ℕ} (pw : Float) → At f b → At low c → At high d → b ≤ 4194304 * tick → c ≤ b * 2 → c ≤ 8388608 * tick → 8388608 * tick ≤ d → cycle ≤ d + b * 2
-    → unitIn pw ≡ true → within low high (clampedWidth f pw) ≡ true
-width-in {f} {low} {high} {b} pw F C D h i j l m u = go (le maxFrequency f)
+pub width-clamp-in : {f low high : Float} {b c d : ℕ} (pw : Float) → At f b → At low c → At high d → b ≤ 4194304 * tick → c ≤ b * 2 → c ≤ 8388608 * tick → cycle ≤ d + b * 2
+    → unitIn pw ≡ true → within low high (clampOf pw (f ⊗ two32) (one32 ⊖ two32 ⊗ f)) ≡ true
+width-clamp-in {f} {low} {high} {b} pw F C D h i j m u =
+    clamp-in pw (f ⊗ two32) (one32 ⊖ two32 ⊗ f) low high (numbers pw one32 (and-both (le zero32 pw) (le pw one32) u .1) .0) (passes-le C (low-at F h) i)
+    (passes-le C (high-at F h) (omega (arith, half-low))) (passes-le (high-at F h) D (rnd-up (at-rnd D) (omega arith)))
   where
     half-low : 8388608 * tick ≤ rnd (cycle - b * 2) 1
     half-low = rnd-dn (at-rnd half-at) (omega arith)
 
+pub width-in : {f low high : Float} {b c d : ℕ} (pw : Float) → At f b → At low c → At high d → b ≤ 4194304 * tick → c ≤ b * 2 → c ≤ 8388608 * tick → 8388608 * tick ≤ d → cycle ≤ d + b * 2
+    → unitIn pw ≡ true → within low high (clampedWidth f pw) ≡ true
+width-in {f} {low} {high} pw F C D h i j l m u = go (le maxFrequency f)
+  where
     go : (o : Bool) → within low high (cond o half32 (clampOf pw (f ⊗ two32) (one32 ⊖ two32 ⊗ f))) ≡ true
     go true = rw (passes-le C half-at j, passes-le half-at D l)
-    go false =
-        clamp-in pw (f ⊗ two32) (one32 ⊖ two32 ⊗ f) low high (numbers pw one32 (and-both (le zero32 pw) (le pw one32) u .1) .0) (passes-le C (low-at F h) i)
-        (passes-le C (high-at F h) (omega (arith, half-low))) (passes-le (high-at F h) D (rnd-up (at-rnd D) (omega arith)))
+    go false = width-clamp-in pw F C D h i j m u
 
-pub width-fits : (f pw : Float) → T (fits binary32 pw) → T (fits binary32 (clampedWidth f pw))
-width-fits f pw t =
+pub width-clamp-fits : (f pw : Float) → T (fits binary32 pw) → T (fits binary32 (clampOf pw (f ⊗ two32) (one32 ⊖ two32 ⊗ f)))
+width-clamp-fits f pw t =
     let low = f ⊗ two32 in
     let high = one32 ⊖ two32 ⊗ f in
-    cond-fits binary32 (le maxFrequency f) half32 (clampOf pw low high) (half-at .fit)
-    (cond-fits binary32 (lt high (atLeast pw low)) high (atLeast pw low) (sub-fits binary32 one32 (two32 ⊗ f)) (cond-fits binary32 (lt pw low) low pw (mul-fits binary32 f two32) t))
+    cond-fits binary32 (lt high (atLeast pw low)) high (atLeast pw low) (sub-fits binary32 one32 (two32 ⊗ f)) (cond-fits binary32 (lt pw low) low pw (mul-fits binary32 f two32) t)
+
+pub width-fits : (f pw : Float) → T (fits binary32 pw) → T (fits binary32 (clampedWidth f pw))
+width-fits f pw t = cond-fits binary32 (le maxFrequency f) half32 (clampOf pw (f ⊗ two32) (one32 ⊖ two32 ⊗ f)) (half-at .fit) (width-clamp-fits f pw t)
 
 -- of a clipped frequency and a parameter that passed its test
 pub width-target : (f pw : Float) → T (fits binary32 f) → within leastTarget maxFrequency f ≡ true → unitIn pw ≡ true → le leastTarget (clampedWidth f pw) ≡ true

@@ -1,0 +1,8 @@
+-- The laws of the classic oscillator.
+pub mod Turned
+pub mod Keeping
+pub mod Places
+pub mod Calls
+pub mod Courses
+pub mod Phase
+pub mod Tight

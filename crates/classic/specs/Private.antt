@@ -1,0 +1,43 @@
+-- What the crate's own functions ask of each other. No public contract cites it, and a reader need not believe it. Assumes nothing.
+use mathlib.Core.Path.{_≡_}
+use mathlib.Core.Bool.{true, cond}
+use mathlib.Core.List.{List, [], _∷_}
+use lib.Ieee.{Float}
+use Rattle.floats.proofs.Ticks.{cycle}
+use Rattle.floats.proofs.Ranges.{Under}
+use Rattle.parameter_interpolator.specs.declared.ParameterInterpolator.{ParameterInterpolator}
+use Rattle.block.specs.declared.Answer.{Answer}
+use Rattle.block.specs.Counting.{noCounts}
+use Rattle.ranges.specs.Ranges.{frequencyIn, unitIn}
+use Rattle.rooms.specs.declared.Room.{Room}
+use Rattle.rooms.specs.declared.Room.the-variants.{Unused, Frequency, PulseWidth}
+use Rattle.rooms.specs.Steps.{stillOne}
+use Rattle.rooms.proofs.Guard.{Course}
+use Rattle.classic.specs.declared.State.{State}
+use Rattle.classic.specs.declared.Rendered.{Rendered}
+use Rattle.classic.specs.declared.OscillatorShape.{OscillatorShape}
+use Rattle.classic.specs.Shapes.{stepsWidth}
+use Rattle.classic.specs.Targets.{frequencyTarget, widthTarget}
+
+-- the phase is a binary32 value of at least 0 and below 1, and the others pass their tests
+pub record Valid (s : State) : Type 0 where
+  pub phase : Under (s .phase) cycle
+  pub frequency : frequencyIn (s .frequency) ≡ true
+  pub pw : unitIn (s .pw) ≡ true
+
+-- the courses of its parameters: the frequency goes to its target, and so does the width where it is stepped
+abbrev pub courses : State → Float → Float → OscillatorShape → List Course
+courses s frequency pw shape =
+    record { room = Frequency; value = s .frequency; target = frequencyTarget frequency }
+    ∷ cond (stepsWidth shape) (record { room = PulseWidth; value = s .pw; target = widthTarget (frequencyTarget frequency) pw } ∷ []) []
+
+-- what stands in the places that are not used
+abbrev pub others : OscillatorShape → List ParameterInterpolator
+others shape = cond (stepsWidth shape) (stillOne ∷ stillOne ∷ stillOne ∷ []) (stillOne ∷ stillOne ∷ stillOne ∷ stillOne ∷ [])
+
+-- the second room of the walk
+abbrev pub widthRoom : OscillatorShape → Room
+widthRoom shape = cond (stepsWidth shape) PulseWidth Unused
+
+abbrev pub refused : Answer → State → Rendered
+refused answer s = record { answer = answer; state = s; counts = noCounts }
