@@ -1,8 +1,9 @@
 -- What the crate's own functions ask of each other. No public contract cites it, and a reader need not believe it. Assumes nothing.
 use mathlib.Core.Path.{_≡_}
-use mathlib.Core.Bool.{true, cond}
+use mathlib.Core.Bool.{Bool, true, false, not, _&&_, xor, cond}
 use mathlib.Core.List.{List, [], _∷_}
-use lib.Ieee.{Float}
+use lib.Ieee.{Float, lt, le}
+use Rattle.floats.specs.F32.{one32}
 use Rattle.floats.proofs.Ticks.{cycle}
 use Rattle.floats.proofs.Ranges.{Under}
 use Rattle.parameter_interpolator.specs.declared.ParameterInterpolator.{ParameterInterpolator}
@@ -16,6 +17,7 @@ use Rattle.rooms.proofs.Guard.{Course}
 use Rattle.classic.specs.declared.State.{State}
 use Rattle.classic.specs.declared.Rendered.{Rendered}
 use Rattle.classic.specs.declared.OscillatorShape.{OscillatorShape}
+use Rattle.classic.specs.declared.OscillatorShape.the-variants.{ImpulseTrain, Saw, Triangle, Slope, Square, SquareBright, SquareDark, SquareTriangle}
 use Rattle.classic.specs.Shapes.{stepsWidth}
 use Rattle.classic.specs.Targets.{frequencyTarget, widthTarget}
 
@@ -41,3 +43,17 @@ widthRoom shape = cond (stepsWidth shape) PulseWidth Unused
 
 abbrev pub refused : Answer → State → Rendered
 refused answer s = record { answer = answer; state = s; counts = noCounts }
+
+-- a sample in which `high` turns at the width, and one in which nothing happens
+abbrev pub turnsOf : OscillatorShape → Bool → Float → Float → Bool
+turnsOf ImpulseTrain high phase pw = false
+turnsOf Saw high phase pw = false
+turnsOf Triangle high phase pw = xor high (lt phase pw)
+turnsOf Slope high phase pw = xor high (lt phase pw)
+turnsOf Square high phase pw = xor high (le pw phase)
+turnsOf SquareBright high phase pw = xor high (le pw phase)
+turnsOf SquareDark high phase pw = xor high (le pw phase)
+turnsOf SquareTriangle high phase pw = xor high (le pw phase)
+
+abbrev pub quietOf : OscillatorShape → Bool → Float → Float → Bool
+quietOf shape high phase pw = not (turnsOf shape high phase pw) && not (le one32 phase)

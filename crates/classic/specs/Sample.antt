@@ -1,5 +1,5 @@
 -- One sample of the classic oscillator: oscillator.rs, lines 91 to 229, in its order. Assumes nothing.
-use mathlib.Core.Bool.{cond}
+use mathlib.Core.Bool.{Bool, cond}
 use mathlib.Core.List.{List}
 use Prim.Native.Nat.{ℕ}
 use lib.ListN.{getD}
@@ -18,23 +18,23 @@ use Rattle.classic.specs.Edges.{edgesOf}
 use Rattle.classic.specs.Output.{outputOf}
 
 -- lines 169 to 173
-abbrev pub triangleAt : Float → Float → Float → Edge → Float
-triangleAt slopeUp slopeDown pw e = cond (e .high) (e .phase ⊗ slopeUp) (one32 ⊖ (e .phase ⊖ pw) ⊗ slopeDown)
+abbrev pub triangleAt : Float → Float → Float → Float → Bool → Float
+triangleAt slopeUp slopeDown pw phase high = cond high (phase ⊗ slopeUp) (one32 ⊖ (phase ⊖ pw) ⊗ slopeDown)
 
 -- line 203
-abbrev pub squareAt : Float → Edge → Float
-squareAt pw e = cond (lt (e .phase) pw) zero32 one32
+abbrev pub squareAt : Float → Float → Float
+squareAt pw phase = cond (lt phase pw) zero32 one32
 
 -- what is added to `next_sample`: lines 126, 169 to 173 with the slopes of lines 138 to 143, and 203
-unfoldable pub naive : OscillatorShape → Float → Edge → Float
-naive ImpulseTrain pw e = e .phase
-naive Saw pw e = e .phase
-naive Triangle pw e = triangleAt two32 two32 pw e
-naive Slope pw e = triangleAt (one32 ⊘ pw) (one32 ⊘ (one32 ⊖ pw)) pw e
-naive Square pw e = squareAt pw e
-naive SquareBright pw e = squareAt pw e
-naive SquareDark pw e = squareAt pw e
-naive SquareTriangle pw e = squareAt pw e
+unfoldable pub naive : OscillatorShape → Float → Float → Bool → Float
+naive ImpulseTrain pw phase high = phase
+naive Saw pw phase high = phase
+naive Triangle pw phase high = triangleAt two32 two32 pw phase high
+naive Slope pw phase high = triangleAt (one32 ⊘ pw) (one32 ⊘ (one32 ⊖ pw)) pw phase high
+naive Square pw phase high = squareAt pw phase
+naive SquareBright pw phase high = squareAt pw phase
+naive SquareDark pw phase high = squareAt pw phase
+naive SquareTriangle pw phase high = squareAt pw phase
 
 -- The end of a sample, and line 232 for what the next one starts with. The source stores frequency and width as it drops their interpolators, and what it stores is the last step.
 unfoldable pub finish : OscillatorShape → State → Float → Float → ℕ → Edge → Sampled
@@ -44,7 +44,7 @@ finish shape s frequency step cycles e =
       sample = o .sample;
       state = record {
         phase = e .phase;
-        «next_sample» = e .«next_sample» ⊕ naive shape (widthOf shape step) e;
+        «next_sample» = e .«next_sample» ⊕ naive shape (widthOf shape step) (e .phase) (e .high);
         «lp_state» = o .«lp_state»;
         «hp_state» = o .«hp_state»;
         high = e .high;

@@ -17,6 +17,7 @@ use rooms::Room;
 
 mod edges_of;
 mod output;
+mod quiet;
 mod sample;
 mod shapes;
 mod start;
@@ -180,7 +181,7 @@ fn drift_or_play(state: State, glides: Glides, shape: OscillatorShape, out: &mut
     }
 }
 
-// Every sample of the buffer.
+// Every sample of the buffer. In most of them nothing happens, and nothing is counted: they go the short way.
 fn play(
     state: State,
     p: [ParameterInterpolator; 5],
@@ -196,11 +197,18 @@ fn play(
     let mut i = 0;
     while i < out.len() {
         moving = rooms::advance(moving);
-        let t = sample::sample(s, moving[0].value, moving[1].value, shape);
-        out[i] = t.sample;
-        s = t.state;
-        counts = block::sum(counts, t.counts);
-        i += 1;
+        if quiet::is_quiet(s, moving[0].value, moving[1].value, shape) {
+            let q = quiet::sample(s, moving[0].value, moving[1].value, shape);
+            out[i] = q.sample;
+            s = q.state;
+            i += 1;
+        } else {
+            let t = sample::sample(s, moving[0].value, moving[1].value, shape);
+            out[i] = t.sample;
+            s = t.state;
+            counts = block::sum(counts, t.counts);
+            i += 1;
+        }
     }
     Rendered {
         answer: Answer::Done,

@@ -1,5 +1,6 @@
 // One sample of the classic oscillator, in the source's order: oscillator.rs, lines 91 to 229.
 ghost use mathlib.Core.Path.{_≡_};
+ghost use Rattle.floats.specs.F32.{_⊖_, _⊘_, one32};
 ghost use Rattle.classic.specs.Sample.{triangleAt, squareAt, naive, finish as finished, sampleOf};
 use crate::OscillatorShape;
 use crate::State;
@@ -17,36 +18,47 @@ pub struct Sampled {
 }
 
 // Lines 169 to 173: up while `high`, and down again to 0 at the end of the cycle.
-fn triangle_at(e: Edge, slope_up: f32, slope_down: f32, pw: f32) -> f32
-    ensures { λ r. ⌜ r ≡ triangleAt «slope_up» «slope_down» pw e ⌝ }
+fn triangle_at(phase: f32, high: bool, slope_up: f32, slope_down: f32, pw: f32) -> f32
+    ensures { λ r. ⌜ r ≡ triangleAt «slope_up» «slope_down» pw phase high ⌝ }
 {
-    if e.high {
-        e.phase * slope_up
+    if high {
+        phase * slope_up
     } else {
-        1.0 - (e.phase - pw) * slope_down
+        1.0 - (phase - pw) * slope_down
+    }
+}
+
+// The same with the slopes of lines 141 and 142: the one is worked out that the phase is on.
+fn slope_at(phase: f32, high: bool, pw: f32) -> f32
+    ensures { λ r. ⌜ r ≡ triangleAt (one32 ⊘ pw) (one32 ⊘ (one32 ⊖ pw)) pw phase high ⌝ }
+{
+    if high {
+        phase * (1.0 / pw)
+    } else {
+        1.0 - (phase - pw) * (1.0 / (1.0 - pw))
     }
 }
 
 // Line 203.
-fn square_at(e: Edge, pw: f32) -> f32
-    ensures { λ r. ⌜ r ≡ squareAt pw e ⌝ }
+fn square_at(phase: f32, pw: f32) -> f32
+    ensures { λ r. ⌜ r ≡ squareAt pw phase ⌝ }
 {
-    if e.phase < pw { 0.0 } else { 1.0 }
+    if phase < pw { 0.0 } else { 1.0 }
 }
 
 // The waveform without its smoothing, that the next sample starts with.
-fn naive_sample(e: Edge, shape: OscillatorShape, pw: f32) -> f32
-    ensures { λ r. ⌜ r ≡ naive shape pw e ⌝ }
+pub(crate) fn naive_sample(phase: f32, high: bool, shape: OscillatorShape, pw: f32) -> f32
+    ensures { λ r. ⌜ r ≡ naive shape pw phase high ⌝ }
 {
     match shape {
-        OscillatorShape::ImpulseTrain => e.phase,
-        OscillatorShape::Saw => e.phase,
-        OscillatorShape::Triangle => triangle_at(e, 2.0, 2.0, pw),
-        OscillatorShape::Slope => triangle_at(e, 1.0 / pw, 1.0 / (1.0 - pw), pw),
-        OscillatorShape::Square => square_at(e, pw),
-        OscillatorShape::SquareBright => square_at(e, pw),
-        OscillatorShape::SquareDark => square_at(e, pw),
-        OscillatorShape::SquareTriangle => square_at(e, pw),
+        OscillatorShape::ImpulseTrain => phase,
+        OscillatorShape::Saw => phase,
+        OscillatorShape::Triangle => triangle_at(phase, high, 2.0, 2.0, pw),
+        OscillatorShape::Slope => slope_at(phase, high, pw),
+        OscillatorShape::Square => square_at(phase, pw),
+        OscillatorShape::SquareBright => square_at(phase, pw),
+        OscillatorShape::SquareDark => square_at(phase, pw),
+        OscillatorShape::SquareTriangle => square_at(phase, pw),
     }
 }
 
@@ -61,12 +73,14 @@ fn finish(
 ) -> Sampled
     ensures { λ r. ⌜ r ≡ finished shape s frequency step cycles e ⌝ }
 {
+    let pw = shapes::width_of(shape, step);
+    let next_sample = e.next_sample + naive_sample(e.phase, e.high, shape, pw);
     let o = output::put_out(s, shape, frequency, e.this_sample);
     Sampled {
         sample: o.sample,
         state: State {
             phase: e.phase,
-            next_sample: e.next_sample + naive_sample(e, shape, shapes::width_of(shape, step)),
+            next_sample,
             lp_state: o.lp_state,
             hp_state: o.hp_state,
             high: e.high,

@@ -9,8 +9,9 @@ returns : tie.Need-returns
 unfolding finish
 returns c =
     let k = c .before in
-    let n = k .before .before in
-    rw (c .counts .ensures, k .kept-width .ensures, n .naive-sample .ensures, n .before .width-of .ensures, n .before .before .put-out .ensures) refl
+    let o = k .before in
+    let n = o .before .before in
+    rw (c .counts .ensures, k .kept-width .ensures, o .put-out .ensures, n .naive-sample .ensures, n .before .width-of .ensures) refl
 
 pub finish-spec : {M : Type 1} → statement M
 finish-spec = tie.close (tie.spec (λ c κs. search needs) (λ c κs. search needs) (λ c κs. search needs) (λ c κs. search needs) (λ c κs. search needs) returns)

@@ -18,7 +18,7 @@ returns-3 c = rw (c .before .enum-told3 .given .1) (c .triangle-at .ensures)
 
 returns-4 : tie.Need-returns-4
 unfolding naive
-returns-4 c = rw (c .before .enum-told4 .given .1) (c .triangle-at2 .ensures)
+returns-4 c = rw (c .before .enum-told4 .given .1) (c .slope-at .ensures)
 
 returns-5 : tie.Need-returns-5
 unfolding naive

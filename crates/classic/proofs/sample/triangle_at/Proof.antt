@@ -3,4 +3,4 @@ use Rattle.classic.proofs.sample.triangle_at.Statement.{statement}
 use Rattle.classic.proofs.sample.triangle_at.Tie as tie
 
 pub triangle-at-spec : {M : Type 1} → statement M
-triangle-at-spec = tie.close (tie.spec (λ c. rw (c .before .if1 .taken)) (λ c. rw (c .before .if1 .left)))
+triangle-at-spec = tie.close (tie.spec (λ c. rw (c .if1 .taken)) (λ c. rw (c .if1 .left)))
