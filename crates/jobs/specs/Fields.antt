@@ -1,4 +1,4 @@
--- The table of 01, "Job records and the renderer": which kinds use which bytes. "Unused bytes must be zero". Assumes nothing.
+-- The table of 01, "Job records and the renderer", with kind 6 of 02 (i): which kinds use which bytes. "Unused bytes must be zero". Assumes nothing.
 use mathlib.Core.Bool.{Bool, true, _&&_, _||_}
 use mathlib.Core.List.{List, [], _∷_}
 use Prim.Native.Nat.{ℕ, suc}
@@ -9,16 +9,16 @@ abbrev pub between : ℕ → ℕ → ℕ → Bool
 between first last i = leb first i && leb i last
 
 -- The table's rows: kind, flags, block length, step count, frequency, master frequency or gain, pulse width or shape, waveshape,
--- phase modulation, registration. No kind uses bytes 56 to 63.
+-- phase modulation, registration. No kind uses bytes 56 to 63. Of kind 6 02 (i) names the flags, "byte 8 frequency, byte 16 pulse width".
 unfoldable pub byteUsed : ℕ → ℕ → Bool
 byteUsed kind i =
     (((((((((between 0 0 i
-    || (between 1 1 i && eqb kind 1))
+    || (between 1 1 i && (eqb kind 1 || eqb kind 6)))
     || between 2 3 i)
     || (between 4 7 i && eqb kind 4))
     || between 8 11 i)
     || (between 12 15 i && (eqb kind 1 || eqb kind 5)))
-    || (between 16 19 i && ((eqb kind 1 || eqb kind 2) || eqb kind 3)))
+    || (between 16 19 i && (((eqb kind 1 || eqb kind 2) || eqb kind 3) || eqb kind 6)))
     || (between 20 23 i && (eqb kind 1 || eqb kind 2)))
     || (between 24 27 i && eqb kind 1))
     || (between 28 55 i && eqb kind 5))

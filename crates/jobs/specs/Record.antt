@@ -1,14 +1,18 @@
--- What a job record asks for: 01, "Job records and the renderer". Assumes nothing.
+-- What a job record asks for: 01, "Job records and the renderer", and 02 (i) for kind 6. Assumes nothing.
 use mathlib.Core.Bool.{Bool, _&&_, cond}
 use mathlib.Core.List.{List}
 use Prim.Native.Nat.{ℕ, _%_}
 use lib.Dec.{eqb, leb}
 use lib.Count.{ones, trailingZeros}
 use lib.ListN.{length, getD}
+use lib.Ieee.{Float}
+use Rattle.classic.specs.Shapes.{numbered}
+use Rattle.classic.specs.declared.shapes.Named.{Named}
+use Rattle.classic.specs.declared.shapes.Named.the-variants.{NoShape, Shape}
 use Rattle.jobs.specs.Words.{shortAt, wordAt, floatAt, floatsAt}
 use Rattle.jobs.specs.Fields.{unusedZero}
 use Rattle.jobs.specs.declared.Settings.{Settings}
-use Rattle.jobs.specs.declared.Settings.the-variants.{VariableShape, VariableSaw, SuperSquare, NesTriangle, StringSynth}
+use Rattle.jobs.specs.declared.Settings.the-variants.{VariableShape, VariableSaw, SuperSquare, NesTriangle, StringSynth, Classic}
 use Rattle.jobs.specs.declared.Asked.{Asked}
 use Rattle.jobs.specs.declared.Asked.the-variants.{BadRecord, Play}
 use Rattle.jobs.specs.declared.Job.{Job}
@@ -43,7 +47,16 @@ nesOf p = let steps = wordAt p 4 in playIf (stepCountIn steps) (NesTriangle (flo
 abbrev pub stringOf : List ℕ → Asked
 stringOf p = Play (StringSynth (floatAt p 8) (floatAt p 12))
 
--- "kind: 1 shape, 2 saw, 3 super square, 4 NES, 5 string; 0 and 6 to 255 are BadRecord"
+-- frequency, pulse width, and the shape that the flags name
+abbrev pub classicBy : Float → Float → Named → Asked
+classicBy frequency pw NoShape = BadRecord
+classicBy frequency pw (Shape shape) = Play (Classic frequency pw shape)
+
+-- 02 (i): "Flags hold the shape 0 to 7 in the order of `OscillatorShape`, above 7 is BadRecord"
+unfoldable pub classicOf : List ℕ → Asked
+classicOf p = classicBy (floatAt p 8) (floatAt p 16) (numbered (getD p 1 0))
+
+-- "kind: 1 shape, 2 saw, 3 super square, 4 NES, 5 string"; 02 (i): "record kind 6"; "as are kinds 7 to 255", and 0, BadRecord
 unfoldable pub byKindOf : ℕ → List ℕ → Asked
 byKindOf kind p =
     cond (eqb kind 1) (shapeOf p)
@@ -51,7 +64,8 @@ byKindOf kind p =
     (cond (eqb kind 3) (superSquareOf p)
     (cond (eqb kind 4) (nesOf p)
     (cond (eqb kind 5) (stringOf p)
-    BadRecord))))
+    (cond (eqb kind 6) (classicOf p)
+    BadRecord)))))
 
 -- a part that is no whole record, as the empty one, is malformed too
 unfoldable pub askedOf : List ℕ → Asked

@@ -1,7 +1,9 @@
 // Job records, 64 bytes each, little-endian: the part of a list that a record is, and what it asks for.
 ghost use mathlib.Core.Path.{_≡_};
 ghost use Rattle.jobs.specs.Words.{recordOf};
-ghost use Rattle.jobs.specs.Record.{stepCountIn, shapeOf, sawOf, superSquareOf, nesOf, stringOf, byKindOf, askedOf, jobOf};
+ghost use Rattle.jobs.specs.Record.{stepCountIn, shapeOf, sawOf, superSquareOf, nesOf, stringOf, classicOf, byKindOf, askedOf, jobOf};
+use classic::Named;
+use classic::OscillatorShape;
 
 mod unused;
 mod words;
@@ -33,6 +35,11 @@ pub enum Settings {
     StringSynth {
         frequency: f32,
         gain: f32,
+    },
+    Classic {
+        frequency: f32,
+        pw: f32,
+        shape: OscillatorShape,
     },
 }
 
@@ -101,11 +108,12 @@ fn by_kind(kind: u8, part: &[u8]) -> Asked
         3 => super_square(part),
         4 => nes(part),
         5 => string(part),
-        0 | 6..=255 => Asked::BadRecord,
+        6 => classic(part),
+        0 | 7..=255 => Asked::BadRecord,
     }
 }
 
-// Kind 1, the only one with flags: 1 is sync, 2 phase output, and above 3 a bit is set that has no meaning.
+// Kind 1. Of its flags 1 is sync, 2 phase output, and above 3 a bit is set that has no meaning.
 fn shape(part: &[u8]) -> Asked
     ensures { λ r. ⌜ r ≡ shapeOf (now (part .entry)) ⌝ }
 {
@@ -176,4 +184,19 @@ fn string(part: &[u8]) -> Asked
         frequency: words::float_at(part, 8),
         gain: words::float_at(part, 12),
     })
+}
+
+// Kind 6, whose flags are the number of its shape: above 7 there is none.
+fn classic(part: &[u8]) -> Asked
+    ensures { λ r. ⌜ r ≡ classicOf (now (part .entry)) ⌝ }
+{
+    let named = classic::shape_of(words::wide(words::byte_at(part, 1)));
+    match named {
+        Named::NoShape => Asked::BadRecord,
+        Named::Shape(shape) => Asked::Play(Settings::Classic {
+            frequency: words::float_at(part, 8),
+            pw: words::float_at(part, 16),
+            shape,
+        }),
+    }
 }

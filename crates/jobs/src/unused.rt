@@ -28,12 +28,12 @@ fn used(kind: u8, i: usize) -> bool
     ensures { λ r. ⌜ r ≡ byteUsed kind i ⌝ }
 {
     among(0, 0, i)
-        | (among(1, 1, i) & (kind == 1))
+        | (among(1, 1, i) & ((kind == 1) | (kind == 6)))
         | among(2, 3, i)
         | (among(4, 7, i) & (kind == 4))
         | among(8, 11, i)
         | (among(12, 15, i) & ((kind == 1) | (kind == 5)))
-        | (among(16, 19, i) & ((kind == 1) | (kind == 2) | (kind == 3)))
+        | (among(16, 19, i) & ((kind == 1) | (kind == 2) | (kind == 3) | (kind == 6)))
         | (among(20, 23, i) & ((kind == 1) | (kind == 2)))
         | (among(24, 27, i) & (kind == 1))
         | (among(28, 55, i) & (kind == 5))

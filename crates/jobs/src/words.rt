@@ -63,3 +63,10 @@ fn wide32(x: u16) -> u32
 {
     x as u32
 }
+
+// A byte as a word's number, for the same reason.
+pub(crate) fn wide(x: u8) -> u32
+    ensures { λ r. ⌜ r ≡ x ⌝ }
+{
+    x as u32
+}

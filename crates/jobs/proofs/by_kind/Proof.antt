@@ -27,15 +27,21 @@ returns-5 c = rw (c .before .match .keys5) (c .string .ensures)
 
 returns-6 : tie.Need-returns-6
 unfolding byKindOf
-returns-6 c = rw (c .match .keys6)
+returns-6 c = rw (c .before .match .keys6) (c .classic .ensures)
 
 returns-7 : tie.Need-returns-7
 unfolding byKindOf
-returns-7 c = let r = c .match .rest in rw (ne-eqb _ 1 (r .0 .0 .0 .0 .0 .1), ne-eqb _ 2 (r .0 .0 .0 .0 .1), ne-eqb _ 3 (r .0 .0 .0 .1), ne-eqb _ 4 (r .0 .0 .1), ne-eqb _ 5 (r .0 .1))
+returns-7 c = rw (c .match .keys7)
+
+returns-8 : tie.Need-returns-8
+unfolding byKindOf
+returns-8 c =
+    let r = c .match .rest in
+    rw (ne-eqb _ 1 (r .0 .0 .0 .0 .0 .0 .1), ne-eqb _ 2 (r .0 .0 .0 .0 .0 .1), ne-eqb _ 3 (r .0 .0 .0 .0 .1), ne-eqb _ 4 (r .0 .0 .0 .1), ne-eqb _ 5 (r .0 .0 .1), ne-eqb _ 6 (r .0 .1))
 
 pub by-kind-spec : {M : Type 1} → statement M
 by-kind-spec =
     tie.close
     (tie.spec
-    (λ c κs. search needs) (λ c κs. search needs) (λ c κs. search needs) (λ c κs. search needs) (λ c κs. search needs) returns returns-2 returns-3
-    returns-4 returns-5 returns-6 returns-7)
+    (λ c κs. search needs) (λ c κs. search needs) (λ c κs. search needs) (λ c κs. search needs) (λ c κs. search needs) (λ c κs. search needs) returns returns-2
+    returns-3 returns-4 returns-5 returns-6 returns-7 returns-8)
