@@ -1,11 +1,11 @@
--- What one record makes: of the five states, what its line says, and its samples. Assumes nothing.
+-- What one record makes: of the six states, what its line says, and its samples. Assumes nothing.
 use mathlib.Core.Bool.{Bool, cond}
 use mathlib.Core.List.{List, []}
 use Prim.Native.Nat.{ℕ}
 use lib.Dec.{eqb}
 use lib.ListN.{replicate}
 use lib.Ieee.{Float}
-use Rattle.floats.specs.F32.{zero32}
+use Rattle.floats.specs.F32.{f32, zero32}
 use Rattle.block.specs.declared.Answer.{Answer}
 use Rattle.block.specs.declared.Answer.the-variants.{BadRecord}
 use Rattle.block.specs.declared.Counts.{Counts}
@@ -14,7 +14,7 @@ use Rattle.block.specs.Counting.{noCounts}
 use Rattle.block.specs.Calls.{Call}
 use Rattle.jobs.specs.Record.{jobOf}
 use Rattle.jobs.specs.declared.Settings.{Settings}
-use Rattle.jobs.specs.declared.Settings.the-variants.{VariableShape, VariableSaw, SuperSquare, NesTriangle, StringSynth}
+use Rattle.jobs.specs.declared.Settings.the-variants.{VariableShape, VariableSaw, SuperSquare, NesTriangle, StringSynth, Classic}
 use Rattle.jobs.specs.declared.Asked.{Asked}
 use Rattle.jobs.specs.declared.Asked.the-variants.{BadRecord as Malformed, Play}
 use Rattle.variable_shape.specs.State as ShapeStart
@@ -27,17 +27,32 @@ use Rattle.nes_triangle.specs.State as NesStart
 use Rattle.nes_triangle.specs.Block as Nes
 use Rattle.string_synth.specs.State as StringStart
 use Rattle.string_synth.specs.Block as Strings
+use Rattle.classic.specs.State as ClassicStart
+use Rattle.classic.specs.Block as Classics
 use Rattle.variable_shape.specs.declared.State.{State as ShapeState}
 use Rattle.variable_saw.specs.declared.State.{State as SawState}
 use Rattle.super_square.specs.declared.State.{State as SquareState}
 use Rattle.nes_triangle.specs.declared.State.{State as NesState}
 use Rattle.string_synth.specs.declared.State.{State as StringState}
+use Rattle.classic.specs.declared.State.{State as ClassicState}
+use Rattle.classic.specs.declared.OscillatorShape.{OscillatorShape}
 use Rattle.bank.specs.declared.Bank.{Bank}
 use Rattle.bank.specs.declared.Outcome.{Outcome}
 
+-- 02 (i): "the sample rate, 8,000 to 384,000 (48,000 in the renderer)"
+abbrev pub sampleRate : Float
+sampleRate = f32 0x473b_8000
+
 -- "Each kind starts from `init`"
 abbrev pub initBank : Bank
-initBank = record { shape = ShapeStart.initState; saw = SawStart.initState; «super_square» = SquareStart.initState; nes = NesStart.initState; string = StringStart.initState }
+initBank = record {
+  shape = ShapeStart.initState;
+  saw = SawStart.initState;
+  «super_square» = SquareStart.initState;
+  nes = NesStart.initState;
+  string = StringStart.initState;
+  classic = ClassicStart.initialState sampleRate;
+}
 
 -- what a record makes: the states after it, what its line says, and its samples
 pub record Made : Type 0 where
@@ -59,19 +74,22 @@ heard c = cond (eqb (c .number) 0) (c .samples) []
 
 -- a bank with one of its states replaced
 abbrev pub withShape : Bank → ShapeState → Bank
-withShape b s = record { shape = s; saw = b .saw; «super_square» = b .«super_square»; nes = b .nes; string = b .string }
+withShape b s = record { shape = s; saw = b .saw; «super_square» = b .«super_square»; nes = b .nes; string = b .string; classic = b .classic }
 
 abbrev pub withSaw : Bank → SawState → Bank
-withSaw b s = record { shape = b .shape; saw = s; «super_square» = b .«super_square»; nes = b .nes; string = b .string }
+withSaw b s = record { shape = b .shape; saw = s; «super_square» = b .«super_square»; nes = b .nes; string = b .string; classic = b .classic }
 
 abbrev pub withSuperSquare : Bank → SquareState → Bank
-withSuperSquare b s = record { shape = b .shape; saw = b .saw; «super_square» = s; nes = b .nes; string = b .string }
+withSuperSquare b s = record { shape = b .shape; saw = b .saw; «super_square» = s; nes = b .nes; string = b .string; classic = b .classic }
 
 abbrev pub withNes : Bank → NesState → Bank
-withNes b s = record { shape = b .shape; saw = b .saw; «super_square» = b .«super_square»; nes = s; string = b .string }
+withNes b s = record { shape = b .shape; saw = b .saw; «super_square» = b .«super_square»; nes = s; string = b .string; classic = b .classic }
 
 abbrev pub withString : Bank → StringState → Bank
-withString b s = record { shape = b .shape; saw = b .saw; «super_square» = b .«super_square»; nes = b .nes; string = s }
+withString b s = record { shape = b .shape; saw = b .saw; «super_square» = b .«super_square»; nes = b .nes; string = s; classic = b .classic }
+
+abbrev pub withClassic : Bank → ClassicState → Bank
+withClassic b s = record { shape = b .shape; saw = b .saw; «super_square» = b .«super_square»; nes = b .nes; string = b .string; classic = s }
 
 -- what a call makes of the bank: the state that it left goes where `put` has the place of its kind, and the others are as they were
 abbrev pub played : {S : Type 0} → (S → Bank) → Call S → Made
@@ -94,6 +112,9 @@ nesPlayed b frequency bits xs = played (withNes b) (Nes.renderOf (b .nes) freque
 unfoldable pub stringPlayed : Bank → Float → List Float → Float → List Float → Made
 stringPlayed b frequency registration gain xs = played (withString b) (Strings.renderOf (b .string) frequency registration gain xs)
 
+unfoldable pub classicPlayed : Bank → Float → Float → OscillatorShape → List Float → Made
+classicPlayed b frequency pw shape xs = played (withClassic b) (Classics.renderOf (b .classic) frequency pw shape xs)
+
 -- the call that the settings ask for, with the registration that stands beside them
 abbrev pub settingsPlayed : Bank → Settings → List Float → List Float → Made
 settingsPlayed b (VariableShape frequency masterFrequency pw waveshape phaseModulation sync phaseOutput) registration xs = shapePlayed b masterFrequency frequency pw waveshape phaseModulation sync phaseOutput xs
@@ -101,6 +122,7 @@ settingsPlayed b (VariableSaw frequency pw waveshape) registration xs = sawPlaye
 settingsPlayed b (SuperSquare frequency shape) registration xs = superSquarePlayed b frequency shape xs
 settingsPlayed b (NesTriangle frequency bits) registration xs = nesPlayed b frequency bits xs
 settingsPlayed b (StringSynth frequency gain) registration xs = stringPlayed b frequency registration gain xs
+settingsPlayed b (Classic frequency pw shape) registration xs = classicPlayed b frequency pw shape xs
 
 -- "the string's buffer is zeroed for each record"; the other kinds overwrite what they find
 abbrev pub silence : ℕ → List Float

@@ -1,4 +1,4 @@
--- What a record makes of the five states, and its samples in a lent buffer.
+-- What a record makes of the six states, and its samples in a lent buffer.
 pub mod Bank
 pub mod Lent
 pub mod Private

@@ -1,12 +1,13 @@
 // A call of each kind, and what it makes of the bank.
 ghost use mathlib.Core.Path.{_≡_};
-ghost use Rattle.bank.specs.Bank.{toldOf, shapePlayed, sawPlayed, superSquarePlayed, nesPlayed, stringPlayed};
+ghost use Rattle.bank.specs.Bank.{toldOf, shapePlayed, sawPlayed, superSquarePlayed, nesPlayed, stringPlayed, classicPlayed};
 ghost use Rattle.bank.specs.Private.{madeOf};
 use crate::Bank;
 use crate::Outcome;
 use crate::Played;
 use block::Answer;
 use block::Counts;
+use classic::OscillatorShape;
 
 // What a line says of a call: the answer's number, and the index that Drift alone carries.
 pub(crate) fn told(answer: Answer, counts: Counts) -> Outcome
@@ -118,6 +119,28 @@ pub(crate) fn string(
     let mut after = bank;
     let next = r.state;
     after.string = next;
+    let answer = r.answer;
+    Played {
+        bank: after,
+        outcome: told(answer, r.counts),
+    }
+}
+
+// The classic oscillator's.
+pub(crate) fn classic(
+    bank: Bank,
+    frequency: f32,
+    pw: f32,
+    shape: OscillatorShape,
+    out: &mut [f32],
+) -> Played
+    ensures { λ r. ⌜ madeOf r (now (out .exit)) ≡ classicPlayed bank frequency pw shape (now (out .entry)) ⌝ }
+{
+    let state = bank.classic;
+    let r = classic::render(state, frequency, pw, shape, out);
+    let mut after = bank;
+    let next = r.state;
+    after.classic = next;
     let answer = r.answer;
     Played {
         bank: after,

@@ -3,7 +3,8 @@ ghost use mathlib.Core.Path.{_≡_};
 ghost use mathlib.Core.List.{_++_};
 ghost use Prim.Native.Nat.{_≤_};
 ghost use lib.ListN.{length, drop};
-ghost use Rattle.bank.specs.Bank.{initBank, settingsPlayed, silence};
+ghost use Rattle.classic.specs.State.{initialState};
+ghost use Rattle.bank.specs.Bank.{sampleRate, initBank, settingsPlayed, silence};
 ghost use Rattle.bank.specs.Lent.{noRoom, handed, playOf, handedBack};
 ghost use Rattle.bank.specs.Private.{lentOf, madeOf};
 use block::Answer;
@@ -16,6 +17,9 @@ mod kinds;
 // The answer where the lent buffer is shorter than an answered block.
 pub const NO_ROOM: u32 = 9;
 
+// The classic oscillator is started at this sample rate.
+const SAMPLE_RATE: f32 = 48000.0;
+
 // The states that records play on, one of each kind.
 pub struct Bank {
     pub shape: variable_shape::State,
@@ -23,6 +27,7 @@ pub struct Bank {
     pub super_square: super_square::State,
     pub nes: nes_triangle::State,
     pub string: string_synth::State,
+    pub classic: classic::State,
 }
 
 // What a record's line says after its index.
@@ -48,7 +53,16 @@ pub fn start() -> Bank
         super_square: super_square::init(),
         nes: nes_triangle::init(),
         string: string_synth::init(),
+        classic: classic_start(),
     }
+}
+
+// The state given to `init` is not looked at, and this rate is within its range.
+fn classic_start() -> classic::State
+    ensures { λ r. ⌜ r ≡ initialState sampleRate ⌝ }
+{
+    let started = classic::init(classic::new(), SAMPLE_RATE);
+    started.state
 }
 
 // Plays a record. Its samples go to the front of `out`; a refused one, a malformed one among them, changes nothing. 4,096 samples are always room enough.
@@ -142,6 +156,11 @@ fn by_kind(bank: Bank, settings: Settings, registration: [f32; 7], out: &mut [f3
         Settings::StringSynth { frequency, gain } => {
             kinds::string(bank, frequency, registration, gain, out)
         }
+        Settings::Classic {
+            frequency,
+            pw,
+            shape,
+        } => kinds::classic(bank, frequency, pw, shape, out),
     }
 }
 

@@ -18,10 +18,14 @@ returns-4 c = let k = c .before .before in rw (k .before .before .before .settin
 returns-5 : tie.Need-returns-5
 returns-5 c = let k = c .before .before in rw (k .before .before .before .settings5 .given .1) (k .string .ensures)
 
+returns-6 : tie.Need-returns-6
+returns-6 c = let k = c .before .before in rw (k .before .before .before .settings6 .given .1) (k .classic .ensures)
+
 pub by-kind-spec : {M : Type 1} → statement M
 by-kind-spec =
     tie.close
     (tie.spec
     (λ c. search needs) (λ c κs. search needs) (λ c. search needs) (λ c κs. search needs) (λ c. search needs) (λ c κs. search needs)
-    (λ c. search needs) (λ c κs. search needs) (λ c. search needs) (λ c κs. search needs) (λ c. search needs) returns (λ c. search needs) returns-2
-    (λ c. search needs) returns-3 (λ c. search needs) returns-4 (λ c. search needs) returns-5)
+    (λ c. search needs) (λ c κs. search needs) (λ c. search needs) (λ c κs. search needs) (λ c. search needs) (λ c κs. search needs)
+    (λ c. search needs) returns (λ c. search needs) returns-2 (λ c. search needs) returns-3 (λ c. search needs) returns-4
+    (λ c. search needs) returns-5 (λ c. search needs) returns-6)

@@ -5,10 +5,16 @@ use Rattle.bank.proofs.start.Statement.{statement}
 use Rattle.bank.proofs.start.Tie as tie
 
 returns : tie.Need-returns
-returns c = rw (c .before .before .before .before .init .ensures, c .before .before .before .init2 .ensures, c .before .before .init3 .ensures, c .before .init4 .ensures, c .init5 .ensures) refl
+returns c =
+    let i5 = c .before in
+    let i4 = i5 .before in
+    let i3 = i4 .before in
+    let i2 = i3 .before in
+    rw (i2 .before .init .ensures, i2 .init2 .ensures, i3 .init3 .ensures, i4 .init4 .ensures, i5 .init5 .ensures, c .classic-start .ensures) refl
 
 pub start-spec : {M : Type 1} → statement M
 start-spec =
     tie.close
     (tie.spec
-    (λ c κs. search needs) (λ c κs. search needs) (λ c κs. search needs) (λ c κs. search needs) (λ c κs. search needs) returns)
+    (λ c κs. search needs) (λ c κs. search needs) (λ c κs. search needs) (λ c κs. search needs) (λ c κs. search needs) (λ c κs. search needs)
+    returns)
