@@ -1,5 +1,6 @@
 // A record's line: the kind, the block length, the settings in the order of their declaration, and the registration.
-// Floats are words by their bits, a NaN as 7fc00000; bools are 0 or 1. A malformed record has the kind 0 and no settings.
+// Floats are words by their bits, a NaN as 7fc00000; bools are 0 or 1, and a shape is its number. A malformed record has the kind 0 and no settings.
+use classic::OscillatorShape;
 use jobs::Asked;
 use jobs::Job;
 use jobs::Settings;
@@ -51,12 +52,30 @@ fn put_settings(text: &mut [u8], settings: Settings, length: u16) -> usize {
         Settings::NesTriangle {
             frequency,
             num_bits,
-        } => {
-            let head = put_head(text, 4, length);
-            let one = put_float(text, head, frequency);
-            testing::put_word(text, one, num_bits, b' ')
-        }
+        } => put_one(text, 4, length, frequency, num_bits),
         Settings::StringSynth { frequency, gain } => put_two(text, 5, length, frequency, gain),
+        Settings::Classic {
+            frequency,
+            pw,
+            shape,
+        } => {
+            let two = put_two(text, 6, length, frequency, pw);
+            testing::put_word(text, two, number_of(shape), b' ')
+        }
+    }
+}
+
+// The number that a record has for a shape.
+fn number_of(shape: OscillatorShape) -> u32 {
+    match shape {
+        OscillatorShape::ImpulseTrain => 0,
+        OscillatorShape::Saw => 1,
+        OscillatorShape::Triangle => 2,
+        OscillatorShape::Slope => 3,
+        OscillatorShape::Square => 4,
+        OscillatorShape::SquareBright => 5,
+        OscillatorShape::SquareDark => 6,
+        OscillatorShape::SquareTriangle => 7,
     }
 }
 
@@ -78,6 +97,13 @@ fn put_two(text: &mut [u8], kind: u32, length: u16, first: f32, second: f32) -> 
     let head = put_head(text, kind, length);
     let one = put_float(text, head, first);
     put_float(text, one, second)
+}
+
+// One that is a float and one that is a number, after the head.
+fn put_one(text: &mut [u8], kind: u32, length: u16, first: f32, second: u32) -> usize {
+    let head = put_head(text, kind, length);
+    let one = put_float(text, head, first);
+    testing::put_word(text, one, second, b' ')
 }
 
 // A float as its word.
