@@ -16,7 +16,7 @@ const USUAL_PLACE: &str = "../../shared/docs/src";
 
 /// The folders below `src/`, the files taken from each, and the struct whose state is opened.
 const OSCILLATORS: [(&str, Option<&str>); 6] = [
-    ("oscillator", None),
+    ("oscillator", Some("Oscillator")),
     ("variable_shape_oscillator", Some("VariableShapeOscillator")),
     ("variable_saw_oscillator", Some("VariableSawOscillator")),
     ("super_square_oscillator", Some("SuperSquareOscillator")),

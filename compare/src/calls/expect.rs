@@ -4,11 +4,12 @@
 use super::line::{buffer, canonical, line};
 use super::model::{self, Outcome};
 use super::original;
-use super::record::{Record, LONGEST_TRIED};
+use super::record::{Asks, Record, LONGEST_TRIED};
 use super::stats::Stats;
 use super::Kinds;
 
-/// What is printed for a kind that is not there, and for a block that is too long to be tried.
+/// What is printed for a kind that is not there, for a block that is too long to be tried, and for a
+/// shape that is none.
 const PASSED_OVER: &str = "-";
 
 /// The line for one record. `number` is the record's place in its list, for the message where the
@@ -19,24 +20,28 @@ pub fn expect(
     kinds: &Kinds,
     stats: &mut Stats,
 ) -> Result<String, String> {
-    if !kinds.has(record.kind()) || record.length() > LONGEST_TRIED {
+    let is_asked = kinds.has(record.kind()) && record.asks() != Asks::Nothing;
+    if !is_asked || record.length() > LONGEST_TRIED {
         stats.pass_over();
         return Ok(PASSED_OVER.to_string());
     }
     let mut samples = buffer(record);
     let outcome =
         held_call(record, &mut samples).map_err(|told| format!("record {number}: {told}"))?;
-    stats.add(record.kind(), &samples, &outcome);
-    Ok(line(&outcome, &samples))
+    match record.asks() {
+        Asks::Render => stats.add(record.kind(), &samples, &outcome),
+        _ => stats.add_other(record.kind(), &outcome),
+    }
+    Ok(line(record.asks(), &outcome, &samples))
 }
 
 /// Makes a record's call on a buffer, and again with the ported Rust where it is answered; an error
 /// where the two differ.
 pub fn held_call(record: &Record, samples: &mut [f32]) -> Result<Outcome, String> {
     let mut original_samples = samples.to_vec();
-    let outcome = model::call(record, samples).ok_or("a kind without an oscillator")?;
+    let outcome = model::call(record, samples).ok_or("a kind or a shape without an oscillator")?;
     if outcome.answer == 0 {
-        let original_words = original::render(record, &mut original_samples);
+        let original_words = original::call(record, &mut original_samples);
         hold(&outcome, samples, &original_words, &original_samples)
             .map_err(|difference| format!("MISMATCH in {difference}"))?;
     }

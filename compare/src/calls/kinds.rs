@@ -4,7 +4,7 @@
 pub struct Kinds([bool; 256]);
 
 impl Kinds {
-    pub const COUNT: u8 = 5;
+    pub const COUNT: u8 = 6;
 
     pub fn all() -> Self {
         Self::of(1..=Self::COUNT)
@@ -35,7 +35,8 @@ impl Kinds {
         match kinds {
             Some(kinds) => Ok(Self::of(kinds)),
             None => Err(format!(
-                "{list} is no list of kinds from 1 to 5, such as 1,3"
+                "{list} is no list of kinds from 1 to {}, such as 1,3",
+                Self::COUNT
             )),
         }
     }

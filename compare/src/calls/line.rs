@@ -1,7 +1,7 @@
 //! The buffer before a call, and the line that tells what the call left.
 
 use super::model::Outcome;
-use super::record::{Record, BUFFER_AT};
+use super::record::{Asks, Record, BUFFER_AT};
 
 /// The bits that stand for every NaN, since which NaN an operation gives is left open.
 const NAN: u32 = 0x7fc0_0000;
@@ -44,9 +44,9 @@ pub fn answer_and_counts(outcome: &Outcome) -> String {
 }
 
 /// Answer, index, counts, state words, checksum. The state words of a refused call and of an empty
-/// block are printed as given.
-pub fn line(outcome: &Outcome, samples: &[f32]) -> String {
-    let stored = outcome.answer == 0 && !samples.is_empty();
+/// block are printed as given, those of another call than `render` as it left them.
+pub fn line(asks: Asks, outcome: &Outcome, samples: &[f32]) -> String {
+    let stored = asks == Asks::Render && outcome.answer == 0 && !samples.is_empty();
     let mut line = answer_and_counts(outcome);
     for &word in &outcome.words {
         let word = if stored { canonical(word) } else { word };
@@ -72,14 +72,19 @@ mod tests {
 
     #[test]
     fn words_that_are_not_stored_are_printed_as_given() {
-        let told = |answer: usize, samples: &[f32]| {
+        let told = |asks: Asks, answer: usize, samples: &[f32]| {
             let mut outcome = call(&Record::of_kind(SAW), &mut []).unwrap();
             (outcome.answer, outcome.words) = (answer, vec![0xff80_0001]);
-            line(&outcome, samples)
+            line(asks, &outcome, samples)
         };
-        assert_eq!(told(0, &[0.0]), "0 0 0 0 0 0 7fc00000 00000000");
-        assert_eq!(told(0, &[]), "0 0 0 0 0 0 ff800001 00000000");
-        assert_eq!(told(3, &[0.0]), "3 0 0 0 0 0 ff800001 00000000");
+        let stored = told(Asks::Render, 0, &[0.0]);
+        assert_eq!(stored, "0 0 0 0 0 0 7fc00000 00000000");
+        let as_it_is = "0 0 0 0 0 0 ff800001 00000000";
+        assert_eq!(told(Asks::Render, 0, &[]), as_it_is);
+        assert_eq!(told(Asks::SetMasterPhase, 0, &[0.0]), as_it_is);
+        assert_eq!(told(Asks::Init, 0, &[0.0]), as_it_is);
+        let refused = told(Asks::Render, 3, &[0.0]);
+        assert_eq!(refused, "3 0 0 0 0 0 ff800001 00000000");
     }
 
     #[test]

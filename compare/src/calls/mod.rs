@@ -1,4 +1,4 @@
-//! The calls of the five oscillators: records, the lines that they are answered with, and the
+//! The calls of the six oscillators: records, the lines that they are answered with, and the
 //! second implementation that is held against the ported Rust.
 
 pub mod expect;
@@ -14,7 +14,9 @@ pub use kinds::Kinds;
 pub use line::{answer_and_counts, canonical, checksum};
 pub use model::start;
 pub use original::starting_words;
-pub use record::SHAPE;
+pub use record::{CLASSIC, SHAPE};
 
+#[cfg(test)]
+mod classic_tests;
 #[cfg(test)]
 mod tests;

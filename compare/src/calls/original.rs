@@ -2,12 +2,54 @@
 
 use super::record::*;
 use crate::oscillator::nes_triangle_oscillator::NesTriangleOscillator;
+use crate::oscillator::oscillator::{Oscillator, OscillatorShape};
 use crate::oscillator::string_synth_oscillator::StringSynthOscillator;
 use crate::oscillator::super_square_oscillator::SuperSquareOscillator;
 use crate::oscillator::variable_saw_oscillator::VariableSawOscillator;
 use crate::oscillator::variable_shape_oscillator::VariableShapeOscillator;
 
-/// Makes a call that is not refused; gives the state words after it.
+/// The sample rate that the classic starts with where a record names none.
+const USUAL_RATE: f32 = 48_000.0;
+
+/// The classic's shapes by their numbers.
+const SHAPES: [OscillatorShape; MOST_SHAPE as usize + 1] = [
+    OscillatorShape::ImpulseTrain,
+    OscillatorShape::Saw,
+    OscillatorShape::Triangle,
+    OscillatorShape::Slope,
+    OscillatorShape::Square,
+    OscillatorShape::SquareBright,
+    OscillatorShape::SquareDark,
+    OscillatorShape::SquareTriangle,
+];
+
+/// Makes the call that a record asks for and that is not refused; gives the state words after it.
+pub fn call(call: &Record, out: &mut [f32]) -> Vec<u32> {
+    match call.asks() {
+        Asks::Render => render(call, out),
+        Asks::SetMasterPhase => set_master_phase(call),
+        Asks::Init => {
+            let mut state = Oscillator::from_words(&call.state_words());
+            state.init(call.float(GIVEN_AT));
+            state.to_words()
+        }
+        Asks::Nothing => call.state_words(),
+    }
+}
+
+/// The word of `high`, which is a bool here, comes back as it was given unless it is another bool.
+fn set_master_phase(call: &Record) -> Vec<u32> {
+    const HIGH: usize = 4;
+    let before = call.state_words();
+    let mut state = VariableShapeOscillator::from_words(&before);
+    state.set_master_phase(call.float(GIVEN_AT));
+    let mut after = state.to_words();
+    if (after[HIGH] != 0) == (before[HIGH] != 0) {
+        after[HIGH] = before[HIGH];
+    }
+    after
+}
+
 pub fn render(call: &Record, out: &mut [f32]) -> Vec<u32> {
     let words = call.state_words();
     let frequency = call.float(FREQUENCY_AT);
@@ -35,6 +77,12 @@ pub fn render(call: &Record, out: &mut [f32]) -> Vec<u32> {
             state.render(frequency, &call.registration(), gain, out);
             state.to_words()
         }
+        CLASSIC => {
+            let mut state = Oscillator::from_words(&words);
+            let shape = SHAPES[usize::from(call.shape())];
+            state.render(frequency, width_or_shape, None, out, shape, false);
+            state.to_words()
+        }
         _ => words,
     }
 }
@@ -54,13 +102,21 @@ fn render_shape(call: &Record, words: &[u32], out: &mut [f32]) -> Vec<u32> {
     state.to_words()
 }
 
+/// The coefficient and the gain that the classic's `init` computes for a sample rate.
+pub fn classic_factors(rate: f32) -> [u32; 2] {
+    let mut state = Oscillator::new();
+    state.init(rate);
+    let words = state.to_words();
+    [words[7], words[8]]
+}
+
 /// The source's `Default` state of a kind, or the one that its `init` leaves.
 pub fn starting_words(kind: u8, initialised: bool) -> Vec<u32> {
     macro_rules! start {
-        ($oscillator:ty) => {{
+        ($oscillator:ty $(, $rate:expr)?) => {{
             let mut state = <$oscillator>::new();
             if initialised {
-                state.init();
+                state.init($($rate)?);
             }
             state.to_words()
         }};
@@ -71,6 +127,7 @@ pub fn starting_words(kind: u8, initialised: bool) -> Vec<u32> {
         SUPER_SQUARE => start!(SuperSquareOscillator),
         NES => start!(NesTriangleOscillator),
         STRING => start!(StringSynthOscillator),
+        CLASSIC => start!(Oscillator, USUAL_RATE),
         _ => Vec::new(),
     }
 }

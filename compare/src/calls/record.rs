@@ -11,13 +11,21 @@ pub const SAW: u8 = 2;
 pub const SUPER_SQUARE: u8 = 3;
 pub const NES: u8 = 4;
 pub const STRING: u8 = 5;
+pub const CLASSIC: u8 = 6;
+
+/// The largest number of a shape of the classic oscillator.
+pub const MOST_SHAPE: u8 = 7;
+/// In place of flags or a shape: the record asks for another call than `render`.
+pub const ANOTHER_CALL: u8 = 128;
 
 pub const LENGTH_AT: usize = 2;
 pub const BITS_AT: usize = 4;
 pub const FREQUENCY_AT: usize = 8;
 /// The master frequency of the variable shape, the gain of the string.
 pub const MASTER_OR_GAIN_AT: usize = 12;
-/// The pulse width of the variable shape and saw, the shape of the super square.
+/// What another call than `render` takes: a master phase, or a sample rate.
+pub const GIVEN_AT: usize = 12;
+/// The pulse width of the variable shape, the saw and the classic, the shape of the super square.
 pub const WIDTH_OR_SHAPE_AT: usize = 16;
 pub const WAVESHAPE_AT: usize = 20;
 pub const PHASE_MODULATION_AT: usize = 24;
@@ -25,6 +33,16 @@ pub const REGISTRATION_AT: usize = 28;
 pub const REGISTRATION_COUNT_AT: usize = 56;
 /// What each sample of the buffer holds before the call; 0 stands for plain numbers.
 pub const BUFFER_AT: usize = 60;
+
+/// What a record asks for, of an oscillator that its kind has.
+#[derive(Clone, Copy, Debug, PartialEq)]
+pub enum Asks {
+    Render,
+    SetMasterPhase,
+    Init,
+    /// The classic's shape is none.
+    Nothing,
+}
 
 #[derive(Clone, Copy)]
 pub struct Record(pub [u8; RECORD_BYTES]);
@@ -64,6 +82,21 @@ impl Record {
         self.0[1] & 2 != 0
     }
 
+    /// The number of the classic's shape.
+    pub fn shape(&self) -> u8 {
+        self.0[1]
+    }
+
+    pub fn asks(&self) -> Asks {
+        match (self.kind(), self.0[1]) {
+            (SHAPE, ANOTHER_CALL) => Asks::SetMasterPhase,
+            (CLASSIC, ANOTHER_CALL) => Asks::Init,
+            (CLASSIC, shape) if shape > MOST_SHAPE => Asks::Nothing,
+            _ => Asks::Render,
+        }
+    }
+
+    /// Flags of the variable shape, or the classic's shape.
     pub fn set_flags(&mut self, flags: u8) {
         self.0[1] = flags;
     }
@@ -116,6 +149,7 @@ pub fn state_word_count(kind: u8) -> usize {
         SUPER_SQUARE => 6,
         NES => 5,
         STRING => 8,
+        CLASSIC => 9,
         _ => 0,
     }
 }

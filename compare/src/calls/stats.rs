@@ -1,6 +1,7 @@
 //! What a list of calls went through, for a reader to judge what it tried.
 
 use super::model::Outcome;
+use super::Kinds;
 use std::collections::BTreeSet;
 use std::fmt;
 
@@ -10,13 +11,15 @@ struct KindStats {
     samples: usize,
     double_rises: usize,
     nans: usize,
+    /// Calls other than `render`, which the answers count too.
+    others: usize,
 }
 
 /// Counts for each kind, by its number; the indexes that a Drift came with; and the records that the
 /// line `-` passes over.
 #[derive(Default)]
 pub struct Stats {
-    kinds: [KindStats; 6],
+    kinds: [KindStats; Kinds::COUNT as usize + 1],
     drifts: BTreeSet<usize>,
     passed_over: usize,
 }
@@ -37,6 +40,13 @@ impl Stats {
             stats.samples += samples.len();
             stats.nans += samples.iter().filter(|sample| sample.is_nan()).count();
         }
+    }
+
+    /// A call other than `render`.
+    pub fn add_other(&mut self, kind: u8, outcome: &Outcome) {
+        let stats = &mut self.kinds[usize::from(kind)];
+        stats.answers[outcome.answer] += 1;
+        stats.others += 1;
     }
 
     pub fn records(&self) -> usize {
@@ -61,8 +71,8 @@ impl Stats {
             }
             writeln!(
                 to,
-                ", {} samples, {} with rise, fall and rise, {} NaN",
-                stats.samples, stats.double_rises, stats.nans
+                ", {} samples, {} with rise, fall and rise, {} NaN, {} calls other than render",
+                stats.samples, stats.double_rises, stats.nans, stats.others
             )?;
         }
         Ok(())

@@ -9,6 +9,8 @@ use crate::lists::job::{job, Job};
 use crate::lists::make::damage::{set_length, set_word};
 
 const BLOCKS: [u16; 8] = [29, 16, 41, 7, 33, 1, 24, 50];
+/// The classic's shapes: each is played after another than the one of the number before it.
+const SHAPES: [u8; 8] = [0, 5, 3, 7, 1, 6, 4, 2];
 
 /// The lists in one stream, and after them one that is cut short, for which nothing is printed.
 pub fn stream() -> Vec<u8> {
@@ -41,6 +43,7 @@ pub fn sound(kind: u8, i: usize) -> Job {
             call.set_float(PHASE_MODULATION_AT, 1.7 - 0.61 * i as f32);
         }
         NES => call.set_word(BITS_AT, 2 + i as u32),
+        CLASSIC => call.set_flags(SHAPES[i % SHAPES.len()]),
         _ => {}
     }
     job(&call)

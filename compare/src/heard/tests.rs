@@ -47,6 +47,12 @@ fn wrong_ways() -> Vec<(u8, &'static str, fn(&mut Record))> {
             swap(c, FREQUENCY_AT, WIDTH_OR_SHAPE_AT)
         }),
         (NES, "one bit more", |c| c.set_word(BITS_AT, c.bits() + 1)),
+        (CLASSIC, "frequency and width", |c| {
+            swap(c, FREQUENCY_AT, WIDTH_OR_SHAPE_AT)
+        }),
+        (CLASSIC, "half a cycle for the width", |c| {
+            c.set_float(WIDTH_OR_SHAPE_AT, 0.5)
+        }),
         (STRING, "gain for frequency", |c| {
             swap(c, FREQUENCY_AT, MASTER_OR_GAIN_AT)
         }),
@@ -86,6 +92,41 @@ fn two_entries_of_the_registration_in_each_others_place_change_a_line() {
 }
 
 #[test]
+fn a_shape_that_is_handed_over_as_another_changes_a_line() {
+    let right = texts(|_| ());
+    for one in 0..=MOST_SHAPE {
+        for other in (0..=MOST_SHAPE).filter(|&other| other != one) {
+            let got = texts(|call| {
+                if call.kind() == CLASSIC && call.shape() == one {
+                    call.set_flags(other);
+                }
+            });
+            assert!(got != right, "shape {one} as {other}");
+        }
+    }
+}
+
+#[test]
+fn each_word_of_the_classics_start_is_heard() {
+    let right = texts(|_| ());
+    let start = crate::calls::start(CLASSIC, true);
+    for word in 0..start.len() {
+        let mut wrong = start.clone();
+        wrong[word] = match wrong[word] {
+            0 => f32::powi(2.0, -10).to_bits(),
+            1 => 0, // `high`
+            float => float + 1,
+        };
+        let got = texts(|call| {
+            if call.kind() == CLASSIC && call.state_words() == start {
+                call.set_state_words(&wrong);
+            }
+        });
+        assert!(got != right, "word {word}");
+    }
+}
+
+#[test]
 fn a_state_that_is_not_carried_changes_a_line() {
     let right = texts(|_| ());
     for kind in Kinds::all().list() {
@@ -101,7 +142,7 @@ fn a_state_that_is_not_carried_changes_a_line() {
 
 #[test]
 fn each_kind_is_answered_and_refused_by_each_number_that_is_asked_for() {
-    let mut found: [BTreeSet<String>; 6] = Default::default();
+    let mut found: [BTreeSet<String>; Kinds::COUNT as usize + 1] = Default::default();
     let mut records = 0;
     for (list, text) in lists().iter().zip(texts(|_| ())) {
         if refused(list) {

@@ -36,7 +36,7 @@ pub struct Carried(pub [Vec<u32>; Kinds::COUNT as usize + 1]);
 
 impl Carried {
     pub fn start() -> Self {
-        Carried([0, 1, 2, 3, 4, 5].map(|kind| start(kind, true)))
+        Carried([0, 1, 2, 3, 4, 5, 6].map(|kind| start(kind, true)))
     }
 
     /// Makes the call that a record asks for. A refused one hands the state back as it was given.

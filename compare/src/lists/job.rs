@@ -21,8 +21,13 @@ pub fn call(job: &[u8]) -> Option<Record> {
     }
     let mut call = Record::of_kind(kind);
     call.set_length(length(job));
-    let (sync, phase_output) = flags(byte(job, 1))?;
-    call.set_flags(u8::from(sync) | (u8::from(phase_output) << 1));
+    call.set_flags(match kind {
+        CLASSIC => shape(byte(job, 1))?,
+        _ => {
+            let (sync, phase_output) = flags(byte(job, 1))?;
+            u8::from(sync) | (u8::from(phase_output) << 1)
+        }
+    });
     for (of, from, to) in places() {
         if of == kind {
             call.set_word(to, word(job, from));
@@ -38,7 +43,7 @@ pub fn call(job: &[u8]) -> Option<Record> {
 
 /// Where each word of each kind stands: the kind, its place in a job record, its place in a call
 /// record.
-fn places() -> [(u8, usize, usize); 21] {
+fn places() -> [(u8, usize, usize); 23] {
     [
         (SHAPE, 8, FREQUENCY_AT),
         (SHAPE, 12, MASTER_OR_GAIN_AT),
@@ -61,16 +66,18 @@ fn places() -> [(u8, usize, usize); 21] {
         (STRING, 44, REGISTRATION_AT + 16),
         (STRING, 48, REGISTRATION_AT + 20),
         (STRING, 52, REGISTRATION_AT + 24),
+        (CLASSIC, 8, FREQUENCY_AT),
+        (CLASSIC, 16, WIDTH_OR_SHAPE_AT),
     ]
 }
 
 /// Whether each byte that not every kind uses is 0, or is used by this kind.
 fn unused_are_zero(kind: u8, job: &[u8]) -> bool {
     let not_for_all: [(_, &[u8]); 8] = [
-        (1..2, &[SHAPE]),
+        (1..2, &[SHAPE, CLASSIC]),
         (4..8, &[NES]),
         (12..16, &[SHAPE, STRING]),
-        (16..20, &[SHAPE, SAW, SUPER_SQUARE]),
+        (16..20, &[SHAPE, SAW, SUPER_SQUARE, CLASSIC]),
         (20..24, &[SHAPE, SAW]),
         (24..28, &[SHAPE]),
         (28..56, &[STRING]),
@@ -84,6 +91,11 @@ fn unused_are_zero(kind: u8, job: &[u8]) -> bool {
 /// Whether a call is in sync, and whether it gives out its phase; nothing for other bits.
 fn flags(byte: u8) -> Option<(bool, bool)> {
     (byte <= MOST_FLAGS).then_some((byte & 1 != 0, byte & 2 != 0))
+}
+
+/// The classic's shape by its number; nothing for one that is none.
+fn shape(byte: u8) -> Option<u8> {
+    (byte <= MOST_SHAPE).then_some(byte)
 }
 
 /// The bits of a step count; nothing for a count that no record may have.
@@ -154,6 +166,12 @@ mod tests {
         let both = [(false, false), (true, false), (false, true), (true, true)];
         assert_eq!([0, 1, 2, 3].map(flags), both.map(Some));
         assert!((4..=255).all(|byte| flags(byte).is_none()));
+    }
+
+    #[test]
+    fn a_shape_is_from_0_to_7() {
+        assert!((0..8).all(|byte| shape(byte) == Some(byte)));
+        assert!((8..=255).all(|byte| shape(byte).is_none()));
     }
 
     #[test]

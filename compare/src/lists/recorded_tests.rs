@@ -184,13 +184,37 @@ fn flags_that_change_places_show_in_the_counts() {
     assert!(misread(SHAPE, &lists, |job| job[1] |= 1) != texts(&lists));
 }
 
+/// A shape that is read as another shows in the counts, save where no count depends on it: impulse
+/// train and saw count alike, and so do the squares that have a width.
+#[test]
+fn shapes_that_change_places_show_in_the_counts() {
+    let lists = changes::lists(CLASSIC);
+    let right = texts(&lists);
+    let alike: [&[u8]; 2] = [&[0, 1], &[4, 5, 6]];
+    for one in 0..=MOST_SHAPE {
+        for other in (0..=MOST_SHAPE).filter(|&other| other != one) {
+            let misreading = |job: &mut Job| {
+                if job[1] == one {
+                    job[1] = other;
+                }
+            };
+            let counted_alike = alike
+                .iter()
+                .any(|shapes| shapes.contains(&one) && shapes.contains(&other));
+            let same = misread(CLASSIC, &lists, misreading) == right;
+            assert_eq!(same, counted_alike, "{one} as {other}");
+        }
+    }
+}
+
 /// The state words that counts and answers go by, for each kind.
-const COUNTED: [(u8, &[usize]); 5] = [
+const COUNTED: [(u8, &[usize]); 6] = [
     (SHAPE, &[0, 1, 4, 5, 6, 7]),
     (SAW, &[0, 3, 4, 5]),
     (SUPER_SQUARE, &[0, 1, 3, 4, 5]),
     (NES, &[0, 2, 4]),
     (STRING, &[0, 2, 3]),
+    (CLASSIC, &[0, 4, 5, 6]),
 ];
 
 /// Starts that differ from this one in a bit, or from 0.0 by a power of two.

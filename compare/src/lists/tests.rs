@@ -69,16 +69,19 @@ fn each_damage_answers_7_and_the_list_goes_on_as_if_it_were_not_there() {
 #[test]
 fn every_kind_byte() {
     let answers = answers(&fixed::every_kind_byte().concat());
-    assert_eq!(answers[..6], [7, 4, 0, 0, 7, 0]);
-    assert_eq!(answers[6..], [7; 250]);
+    assert_eq!(answers[..7], [7, 4, 0, 0, 7, 0, 0]);
+    assert_eq!(answers[7..], [7; 249]);
 }
 
 #[test]
 fn flags_step_counts_and_unused_bytes() {
-    for flags in 0..=255 {
-        let mut job = sound(SHAPE);
-        job[1] = flags;
-        assert_eq!(answer(&job), if flags > 3 { 7 } else { 0 }, "flags {flags}");
+    for (kind, most) in [(SHAPE, 3), (SAW, 0), (CLASSIC, 7)] {
+        for flags in 0..=255 {
+            let mut job = sound(kind);
+            job[1] = flags;
+            let expected = if flags > most { 7 } else { 0 };
+            assert_eq!(answer(&job), expected, "kind {kind}, flags {flags}");
+        }
     }
     for bits in 0..32 {
         let expected = if (1..=16).contains(&bits) { 0 } else { 7 };
@@ -90,7 +93,7 @@ fn flags_step_counts_and_unused_bytes() {
     );
     // As many bytes as the request's table leaves over for each kind.
     let counts = Kinds::all().list().into_iter().map(|k| unused(k).len());
-    assert_eq!(counts.collect::<Vec<_>>(), [40, 49, 53, 53, 25]);
+    assert_eq!(counts.collect::<Vec<_>>(), [40, 49, 53, 53, 25, 52]);
 }
 
 #[test]

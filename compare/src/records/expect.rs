@@ -43,6 +43,10 @@ fn settings(call: &Record) -> Vec<u32> {
         SAW => words(&[FREQUENCY_AT, WIDTH_OR_SHAPE_AT, WAVESHAPE_AT]),
         SUPER_SQUARE => words(&[FREQUENCY_AT, WIDTH_OR_SHAPE_AT]),
         NES => words(&[FREQUENCY_AT, BITS_AT]),
+        CLASSIC => {
+            let floats: Vec<u32> = words(&[FREQUENCY_AT, WIDTH_OR_SHAPE_AT]);
+            [floats, vec![call.shape().into()]].concat()
+        }
         _ => words(&[FREQUENCY_AT, MASTER_OR_GAIN_AT]),
     }
 }
@@ -89,10 +93,15 @@ mod tests {
             (SUPER_SQUARE, vec![(8, 1), (16, 2)], "00000001 00000002"),
             (NES, vec![(8, 1), (4, 1024)], "00000001 0000000a"),
             (STRING, vec![(8, 1), (12, 2)], "00000001 00000002"),
+            (CLASSIC, vec![(8, 1), (16, 2)], "00000001 00000002 00000000"),
         ] {
             let expected = format!("{kind} 65535 {settings}{NO_REGISTRATION}");
             assert_eq!(line(&record(kind, 65_535, &words)), expected);
         }
+        let mut classic = record(CLASSIC, 1, &[]);
+        classic[1] = 7;
+        let settings = "00000000 00000000 00000007";
+        assert_eq!(line(&classic), format!("6 1 {settings}{NO_REGISTRATION}"));
     }
 
     #[test]
@@ -102,7 +111,7 @@ mod tests {
         let string = line(&record(STRING, 0, &entries));
         assert_eq!(string, format!("5 0 00000000 00000000{shown}"));
         // No other kind uses these bytes, so such a record is malformed.
-        for kind in [0, SHAPE, SAW, SUPER_SQUARE, NES, 6] {
+        for kind in [0, SHAPE, SAW, SUPER_SQUARE, NES, CLASSIC, 7] {
             assert_eq!(line(&record(kind, 10, &entries)), format!("0 10{shown}"));
         }
     }

@@ -1,16 +1,16 @@
 //! Job records: first fixed ones, then random ones, and a rest that is no whole record. A byte of a
 //! fixed record says where it stands, so that a number read from another place shows.
 
-use crate::calls::make::fields::settings;
+use crate::calls::make::fields::{choices, settings};
 use crate::calls::record::*;
 use crate::lists::job::{Job, JOB_BYTES};
 use crate::lists::make::damage::{bad_step_counts, set_length, set_word, unused};
 use crate::random::Random;
 
-const ALL: [u8; 5] = [SHAPE, SAW, SUPER_SQUARE, NES, STRING];
+const ALL: [u8; 6] = [SHAPE, SAW, SUPER_SQUARE, NES, STRING, CLASSIC];
 
-/// Those of two bits, and each further bit.
-const FLAGS: [u8; 11] = [0, 1, 2, 3, 4, 8, 16, 32, 64, 128, 255];
+/// Those of two bits, those of three, and each further bit.
+const FLAGS: [u8; 14] = [0, 1, 2, 3, 4, 5, 6, 7, 8, 16, 32, 64, 128, 255];
 
 /// Each number of digits at both its ends, and both bytes alone.
 const LENGTHS: [u16; 14] = [
@@ -55,7 +55,7 @@ fn fixed() -> Vec<Job> {
         job
     }));
     // Malformed whatever the kind is, and with a registration all the same.
-    jobs.extend((0..=6).map(|kind| {
+    jobs.extend((0..=7).map(|kind| {
         let mut job: Job = std::array::from_fn(|at| 0x40 + at as u8);
         job[0] = kind;
         job
@@ -85,8 +85,10 @@ fn placed(kind: u8, first: u8) -> Job {
     for at in unused(kind) {
         job[at] = 0;
     }
-    if kind == NES {
-        set_word(&mut job, BITS_AT, 1 << 9);
+    match kind {
+        NES => set_word(&mut job, BITS_AT, 1 << 9),
+        CLASSIC => job[1] = 5,
+        _ => {}
     }
     job
 }
@@ -152,7 +154,7 @@ fn random_sound(kind: u8, random: &mut Random) -> Job {
         set_word(&mut job, at, word);
     }
     match kind {
-        SHAPE => job[1] = random.below(4) as u8,
+        SHAPE | CLASSIC => job[1] = random.below(choices(kind).into()) as u8,
         NES => set_word(&mut job, BITS_AT, 2 << random.below(16)),
         _ => {}
     }
@@ -208,11 +210,14 @@ mod tests {
 
     #[test]
     fn every_flag_kind_byte_and_step_count_is_sound_or_not() {
-        let sound_flags = FLAGS.map(|flags| is_sound(&with(SHAPE, 1, flags)));
-        assert_eq!(sound_flags.iter().filter(|&&sound| sound).count(), 4);
+        for (kind, count) in [(SHAPE, 4), (SAW, 1), (CLASSIC, 8)] {
+            let sound_flags = FLAGS.map(|flags| is_sound(&with(kind, 1, flags)));
+            let sound = sound_flags.iter().filter(|&&sound| sound);
+            assert_eq!(sound.count(), count, "kind {kind}");
+        }
         let kinds: Vec<u8> = (0..=255).filter(|&k| is_sound(&of_kind_byte(k))).collect();
         // The NES triangle has a step count of 0 there.
-        assert_eq!(kinds, [SHAPE, SAW, SUPER_SQUARE, STRING]);
+        assert_eq!(kinds, [SHAPE, SAW, SUPER_SQUARE, STRING, CLASSIC]);
         let bits: Vec<u32> = (0..32)
             .filter(|&bit| is_sound(&with_word(NES, BITS_AT, 1 << bit)))
             .collect();
@@ -221,11 +226,11 @@ mod tests {
 
     #[test]
     fn the_recorded_file_has_all_fixed_records_two_hundred_random_ones_and_a_rest() {
-        assert_eq!(fixed().len(), 1129);
-        let recorded = records(1329, 2);
+        assert_eq!(fixed().len(), 1281);
+        let recorded = records(1481, 2);
         assert!(recorded.starts_with(&fixed().concat()));
-        // The rest ends within the fifth entry of its registration.
-        assert_eq!(recorded.len(), 1329 * JOB_BYTES + 46);
+        // The rest ends within the last entry of its registration.
+        assert_eq!(recorded.len(), 1481 * JOB_BYTES + 54);
         assert_eq!(records(10, 1).len() / JOB_BYTES, 10);
         assert_ne!(records(1000, 1), records(1000, 2));
     }
@@ -245,7 +250,7 @@ mod tests {
             of_kind(0)
         );
         for kind in ALL {
-            assert!(of_kind(kind) > 150, "{} of kind {kind}", of_kind(kind));
+            assert!(of_kind(kind) > 120, "{} of kind {kind}", of_kind(kind));
             assert!((0..1000).all(|_| is_sound(&random_sound(kind, &mut random))));
         }
     }

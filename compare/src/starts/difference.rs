@@ -33,7 +33,7 @@ mod tests {
     fn equal_texts_agree() {
         let input = records(100, 1);
         let text = text(&input);
-        let agreed = "15 starting states, 100 records agree".to_string();
+        let agreed = "18 starting states, 100 records agree".to_string();
         assert_eq!(first(&input, text.as_bytes(), text.as_bytes()), Ok(agreed));
     }
 

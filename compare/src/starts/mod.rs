@@ -1,13 +1,17 @@
-//! The states that the oscillators start from, and the variable shape's master phase set from
-//! outside. A record is ten state words and the phase, 32-bit words, little-endian.
+//! The states that the oscillators start from, the variable shape's master phase set from outside,
+//! and the classic's `init` at a sample rate. A record is eleven 32-bit words, little-endian: ten state
+//! words, of which the classic's state has the first nine, and a word that is the phase and the rate.
 
 mod difference;
 mod expect;
-mod make;
+mod init;
+pub mod make;
 mod set;
 
 pub use difference::first_difference;
 pub use expect::text;
+pub use init::init;
+pub use set::set;
 
 /// How many words the variable shape's state has.
 const STATE_WORDS: usize = 10;
@@ -17,7 +21,8 @@ pub const RECORD_BYTES: usize = 4 * (STATE_WORDS + 1);
 #[derive(Clone, Copy, Debug, PartialEq)]
 struct Record {
     state: [u32; STATE_WORDS],
-    phase: u32,
+    /// The phase to set, and the sample rate.
+    given: u32,
 }
 
 impl Record {
@@ -25,12 +30,12 @@ impl Record {
         let word = |i: usize| u32::from_le_bytes([0, 1, 2, 3].map(|byte| bytes[4 * i + byte]));
         Record {
             state: std::array::from_fn(word),
-            phase: word(STATE_WORDS),
+            given: word(STATE_WORDS),
         }
     }
 
     fn bytes(&self) -> Vec<u8> {
-        let words = self.state.iter().chain([&self.phase]);
+        let words = self.state.iter().chain([&self.given]);
         words.flat_map(|word| word.to_le_bytes()).collect()
     }
 }
@@ -49,7 +54,7 @@ mod tests {
     fn a_record_is_read_as_it_is_written() {
         let record = Record {
             state: [1, 2, 3, 4, 5, 6, 7, 8, 9, 0xff80_0001],
-            phase: 0x3f00_0000,
+            given: 0x3f00_0000,
         };
         let bytes = record.bytes();
         assert_eq!(bytes.len(), RECORD_BYTES);

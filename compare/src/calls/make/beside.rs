@@ -1,6 +1,7 @@
 //! Calls that stand right beside a turning point: a phase that comes to lie on it or one float
 //! before it, numbers so small that a product loses digits, a width that hardly leaves 1.
 
+use super::classic;
 use super::fixed::plain;
 use crate::calls::record::*;
 
@@ -14,6 +15,7 @@ pub fn beside(kind: u8) -> Vec<Record> {
         SUPER_SQUARE => [squares(), factors()].concat(),
         NES => [stairs(), tiny_stairs(), bits_outside()].concat(),
         STRING => [segments(), tiny_gains(), buffers()].concat(),
+        CLASSIC => classic::records(),
         _ => Vec::new(),
     }
 }

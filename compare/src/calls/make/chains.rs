@@ -2,7 +2,7 @@
 //! left, with set-ups made by hand and damaged records between.
 
 use super::fields::{settings, state};
-use super::{fixed, setups};
+use super::{fixed, others, setups};
 use crate::calls::line::{buffer, canonical};
 use crate::calls::model;
 use crate::calls::original::starting_words;
@@ -23,6 +23,7 @@ impl Chains {
         match random.below(32) {
             0 => setups::drifting(&mut record, random),
             1..=4 => setups::crossing(&mut record, random),
+            5 if kind == CLASSIC => setups::overtaking(&mut record, random),
             5 => setups::dividing_by_zero(&mut record, random),
             6 | 7 => setups::on_a_grid(&mut record, random),
             _ => {}
@@ -30,7 +31,11 @@ impl Chains {
         if random.one_in(6) {
             damage(&mut record, random);
         }
-        self.keep(record);
+        let rendering = record;
+        if others::has(kind) && random.one_in(16) {
+            others::choose(&mut record, random);
+        }
+        self.keep(record, rendering);
         record
     }
 
@@ -52,15 +57,14 @@ impl Chains {
         record
     }
 
-    /// Makes the call, so that a later record can go on from where it ends. Each NaN becomes the
-    /// same one, so that a seed gives the same records on any machine.
-    fn keep(&mut self, record: Record) {
+    /// Makes the call, so that a later record can go on from where it ends, under the settings of
+    /// `after`. Each NaN becomes the same one, so that a seed gives the same records on any machine.
+    fn keep(&mut self, record: Record, mut after: Record) {
         if record.length() > LONGEST_TRIED {
             return;
         }
         match model::call(&record, &mut buffer(&record)) {
             Some(outcome) if outcome.answer == 0 => {
-                let mut after = record;
                 let words: Vec<u32> = outcome.words.into_iter().map(canonical).collect();
                 after.set_state_words(&words);
                 self.last[usize::from(record.kind())] = Some(after);

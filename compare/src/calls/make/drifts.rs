@@ -85,6 +85,7 @@ fn width_word(kind: u8) -> Option<usize> {
     match kind {
         SHAPE => Some(7),
         SAW => Some(5),
+        CLASSIC => Some(6),
         _ => None,
     }
 }
@@ -161,7 +162,7 @@ fn frequency_drifts(kind: u8, word: usize, way: &Way, length: u16) -> Record {
     }
     record.set_float(state_at(word), way.value);
     match kind {
-        SHAPE | SUPER_SQUARE => record.set_float(WIDTH_OR_SHAPE_AT, 0.5),
+        SHAPE | SUPER_SQUARE | CLASSIC => record.set_float(WIDTH_OR_SHAPE_AT, 0.5),
         SAW => {
             record.set_float(WIDTH_OR_SHAPE_AT, 0.5);
             record.set_float(WAVESHAPE_AT, 0.0);

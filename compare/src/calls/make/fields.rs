@@ -42,7 +42,7 @@ pub fn settings(kind: u8) -> Vec<Field> {
             (PHASE_MODULATION_AT, Holds::UpTo(-8.0, 8.0)),
         ]),
         SAW => fields.extend([(WIDTH_OR_SHAPE_AT, UNIT), (WAVESHAPE_AT, UNIT)]),
-        SUPER_SQUARE => fields.push((WIDTH_OR_SHAPE_AT, UNIT)),
+        SUPER_SQUARE | CLASSIC => fields.push((WIDTH_OR_SHAPE_AT, UNIT)),
         NES => fields.push((BITS_AT, Holds::Whole(1, 16))),
         STRING => {
             fields.push((MASTER_OR_GAIN_AT, Holds::UpTo(0.0, 4.0)));
@@ -109,6 +109,27 @@ const STRING_STATE: [Holds; 8] = [
     GAIN,
 ];
 
+const CLASSIC_STATE: [Holds; 9] = [
+    PHASE,
+    Holds::AnyBits, // next sample
+    Holds::AnyBits, // low-pass
+    Holds::AnyBits, // high-pass
+    Holds::Flag,
+    STATE_FREQUENCY,
+    UNIT,
+    Holds::AnyBits, // the impulse train's coefficient
+    Holds::AnyBits, // and its gain
+];
+
+/// How many choices byte 1 has: the variable shape's two flags, the classic's shapes.
+pub fn choices(kind: u8) -> u8 {
+    match kind {
+        SHAPE => 4,
+        CLASSIC => MOST_SHAPE + 1,
+        _ => 1,
+    }
+}
+
 /// The state of this kind, in the source's order.
 pub fn state(kind: u8) -> Vec<Field> {
     let holds: &[Holds] = match kind {
@@ -117,6 +138,7 @@ pub fn state(kind: u8) -> Vec<Field> {
         SUPER_SQUARE => &SUPER_SQUARE_STATE,
         NES => &NES_STATE,
         STRING => &STRING_STATE,
+        CLASSIC => &CLASSIC_STATE,
         _ => &[],
     };
     let place = |(i, &holds)| Field {
@@ -133,6 +155,7 @@ pub fn frequencies(kind: u8) -> &'static [(usize, usize)] {
         SAW | NES => &[(4, FREQUENCY_AT)],
         SUPER_SQUARE => &[(4, FREQUENCY_AT), (5, FREQUENCY_AT)],
         STRING => &[(3, FREQUENCY_AT)],
+        CLASSIC => &[(5, FREQUENCY_AT)],
         _ => &[],
     }
 }

@@ -2,11 +2,15 @@
 //! each field at each end of its range, one float below and one above.
 
 use super::drifts::drifts;
-use super::fields::{settings, state, Field, Holds};
+use super::fields::{choices, settings, state, Field, Holds};
 use super::figures::figures;
+use super::others;
 use crate::calls::original::starting_words;
 use crate::calls::record::*;
 use std::collections::HashSet;
+
+/// The classic's shape of a plain call: one that rises and falls, and has a width.
+const SLOPE: u8 = 3;
 
 const LENGTHS: [u16; 13] = [
     0, 1, 2, 63, 64, 65, 4095, 4096, 4097, 8191, 8192, 8193, 65_535,
@@ -20,6 +24,7 @@ pub fn records(kind: u8) -> Vec<Record> {
     records.extend(first_refusal_wins(kind));
     records.extend(bits_that_could_be_lost(kind));
     records.extend(boundaries(kind));
+    records.extend(others::records(kind));
     // Ends of different ranges meet, so some records come up more than once.
     let mut seen = HashSet::new();
     records.retain(|record| seen.insert(record.0));
@@ -36,6 +41,7 @@ pub fn plain(kind: u8) -> Record {
     match kind {
         NES => record.set_word(BITS_AT, 4),
         STRING => record.set_word(REGISTRATION_COUNT_AT, 7),
+        CLASSIC => record.set_flags(SLOPE),
         _ => {}
     }
     record.set_state_words(&starting_words(kind, true));
@@ -44,9 +50,8 @@ pub fn plain(kind: u8) -> Record {
 
 /// The two states that the source gives, each with each of the flags that the kind uses.
 fn starts(kind: u8) -> Vec<Record> {
-    let flags = if kind == SHAPE { 4 } else { 1 };
     let mut records = Vec::new();
-    for flag in 0..flags {
+    for flag in 0..choices(kind) {
         for initialised in [false, true] {
             let mut record = plain(kind);
             record.set_length(64);
@@ -130,8 +135,8 @@ fn boundaries(kind: u8) -> Vec<Record> {
             for word in field.holds.boundaries() {
                 let mut record = base;
                 record.set_word(field.at, word);
-                if kind == SHAPE {
-                    record.set_flags((records.len() % 4) as u8);
+                if choices(kind) > 1 {
+                    record.set_flags(records.len() as u8 % choices(kind));
                 }
                 records.push(record);
             }
@@ -148,7 +153,7 @@ fn other_ranges(kind: u8) -> Vec<Field> {
             at(state_at(0), Holds::Below(0.0, 1.0)),
             at(FREQUENCY_AT, Holds::UpTo(0.25, 0.25)),
         ],
-        SHAPE => vec![at(FREQUENCY_AT, Holds::UpTo(0.25, 0.25))],
+        SHAPE | CLASSIC => vec![at(FREQUENCY_AT, Holds::UpTo(0.25, 0.25))],
         SUPER_SQUARE => vec![
             at(FREQUENCY_AT, Holds::UpTo(0.25, 0.25)),
             at(WIDTH_OR_SHAPE_AT, Holds::UpTo(0.5, 0.5)),

@@ -3,10 +3,12 @@
 
 mod beside;
 mod chains;
+mod classic;
 pub mod drifts;
 pub mod fields;
 pub mod figures;
 pub mod fixed;
+mod others;
 pub mod setups;
 
 use super::record::Record;
@@ -15,7 +17,7 @@ use crate::random::Random;
 use chains::Chains;
 
 /// Kind bytes that no oscillator has.
-const NO_KINDS: [u8; 4] = [0, 6, 7, 255];
+const NO_KINDS: [u8; 4] = [0, 7, 8, 255];
 
 /// How many random records of each kind are recorded, and their seed.
 const RECORDED: usize = 300;

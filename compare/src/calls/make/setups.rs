@@ -1,6 +1,7 @@
 //! States made by hand: valid ones of any kind, and those in which a rare thing happens.
 
-use super::fields::{frequencies, settings, state, Holds};
+use super::fields::{choices, frequencies, settings, state, Holds};
+use crate::calls::original::classic_factors;
 use crate::calls::record::*;
 use crate::random::Random;
 
@@ -26,6 +27,7 @@ pub fn choose_settings(record: &mut Record, random: &mut Random) {
             }
             record.set_word(REGISTRATION_COUNT_AT, 7);
         }
+        CLASSIC => record.set_flags(random.below(u32::from(choices(kind))) as u8),
         _ => {}
     }
 }
@@ -62,6 +64,13 @@ pub fn choose_state(record: &mut Record, random: &mut Random) {
         STRING if !random.one_in(4) => {
             record.set_word(state_at(2), record.float(state_at(0)) as u32);
         }
+        // Factors of any bits soon leave nothing to be heard, so most are those of a sample rate.
+        CLASSIC if !random.one_in(4) => {
+            let rate = random.between(8_000.0, 384_000.0);
+            for (i, word) in classic_factors(rate).into_iter().enumerate() {
+                record.set_word(state_at(7 + i), word);
+            }
+        }
         _ => {}
     }
 }
@@ -88,6 +97,7 @@ pub fn drifting(record: &mut Record, random: &mut Random) {
     let width = match kind {
         SHAPE => state_at(7),
         SAW => state_at(5),
+        CLASSIC => state_at(6),
         _ => return,
     };
     if random.one_in(2) {
@@ -119,6 +129,7 @@ pub fn crossing(record: &mut Record, random: &mut Random) {
             record.set_float(WIDTH_OR_SHAPE_AT, random.small(0.25, 24));
         }
         SAW | SUPER_SQUARE => record.set_word(state_at(3), random.below(2)),
+        CLASSIC => record.set_word(state_at(4), random.below(2)),
         NES => record.set_word(state_at(2), (1 << record.bits().clamp(1, 16)) - 1),
         STRING => record.set_word(state_at(2), 7),
         _ => {}
@@ -146,6 +157,24 @@ pub fn dividing_by_zero(record: &mut Record, random: &mut Random) {
         part((to - step + random.below(3)).min(1023)),
     );
     record.set_word(state_at(high), 0);
+}
+
+/// A width that passes the phase, up or down, while this hardly moves.
+pub fn overtaking(record: &mut Record, random: &mut Random) {
+    let phase = random.between(0.2, 0.8);
+    let [below, above] = [0.0, phase].map(|low| random.between(low, low + 0.2));
+    let (from, to) = match random.one_in(2) {
+        true => (below, above),
+        false => (above, below),
+    };
+    let frequency = random.small(0.01, 8).max(0.000001);
+    record.set_float(FREQUENCY_AT, frequency);
+    record.set_float(WIDTH_OR_SHAPE_AT, to);
+    record.set_float(state_at(0), phase);
+    record.set_word(state_at(4), random.below(2));
+    record.set_float(state_at(5), frequency);
+    record.set_float(state_at(6), from);
+    record.set_length(1 + random.below(8) as u16);
 }
 
 /// Phases, widths and steady steps in parts of 1/64, so that a phase meets a crossing exactly.
@@ -177,6 +206,7 @@ pub fn on_a_grid(record: &mut Record, random: &mut Random) {
             record.set_float(WIDTH_OR_SHAPE_AT, record.float(state_at(5)));
         }
         SUPER_SQUARE => record.set_float(WIDTH_OR_SHAPE_AT, 0.5),
+        CLASSIC => record.set_float(WIDTH_OR_SHAPE_AT, record.float(state_at(6))),
         _ => {}
     }
 }

@@ -1,6 +1,10 @@
 //! The states that the source starts from, as words in the order of its fields.
 
-use crate::calls::record::{NES, SAW, SHAPE, STRING, SUPER_SQUARE};
+use crate::calls::record::{CLASSIC, NES, SAW, SHAPE, STRING, SUPER_SQUARE};
+use crate::starts::init;
+
+/// The sample rate that the renderer starts the classic with.
+const RENDERERS_RATE: f32 = 48_000.0;
 
 /// The source's `Default` state of a kind, or the one that its `init` leaves.
 pub fn start(kind: u8, initialised: bool) -> Vec<u32> {
@@ -37,6 +41,18 @@ pub fn start(kind: u8, initialised: bool) -> Vec<u32> {
         (NES, true) => vec![f(0.0), f(0.0), 0, 1, f(0.001)],
         (STRING, false) => strings(f(0.0)),
         (STRING, true) => strings(f(0.001)),
+        (CLASSIC, false) => vec![
+            f(0.0),
+            f(0.0),
+            f(0.0),
+            f(0.0),
+            0,
+            f(0.0),
+            f(0.0),
+            f(0.0),
+            f(0.0),
+        ],
+        (CLASSIC, true) => init(&[0; 9], f(RENDERERS_RATE)).1.to_vec(),
         _ => Vec::new(),
     }
 }

@@ -2,7 +2,7 @@
 //! so that a field which is read from another's place shows in the counts and in nothing else.
 
 use super::damage::{set_length, set_word};
-use crate::calls::make::fields::settings;
+use crate::calls::make::fields::{choices, settings};
 use crate::calls::record::*;
 use crate::lists::job::{job, Job};
 
@@ -36,11 +36,10 @@ fn base(kind: u8) -> Job {
 }
 
 /// For each value of each field a list: blocks of the changed record, then one of the base. Those of
-/// the variable shape come with each choice of flags.
+/// the variable shape come with each choice of flags, those of the classic with each shape.
 pub fn lists(kind: u8) -> Vec<Vec<u8>> {
-    let flags = if kind == SHAPE { 0..4 } else { 0..1 };
     let mut lists = Vec::new();
-    for flags in flags {
+    for flags in 0..choices(kind) {
         let mut base = base(kind);
         base[1] = flags;
         for changed in changed(&base) {

@@ -3,12 +3,12 @@
 //! maker does not lean on the check that it tries.
 
 use super::sound;
-use crate::calls::make::fields::settings;
+use crate::calls::make::fields::{choices, settings};
 use crate::calls::record::*;
 use crate::lists::job::{Job, JOB_BYTES};
 use crate::random::Random;
 
-const NO_KINDS: [u8; 5] = [0, 6, 7, 8, 255];
+const NO_KINDS: [u8; 5] = [0, 7, 8, 9, 255];
 
 /// Step counts with one bit or none, and ones in which a test of only some bits finds one.
 const STEP_COUNTS: [u32; 14] = [
@@ -33,7 +33,7 @@ pub fn unused(kind: u8) -> Vec<usize> {
     let fields = settings(kind);
     let used = |at: usize| match at {
         0 | 2 | 3 => true,
-        1 => kind == SHAPE,
+        1 => choices(kind) > 1,
         _ => fields
             .iter()
             .any(|field| (field.at..field.at + 4).contains(&at)),
@@ -48,10 +48,9 @@ pub fn malformed(kind: u8) -> Vec<Job> {
         job[at] = byte;
         job
     };
-    let no_kinds = (0..=255).filter(|&byte| !(1..=5).contains(&byte));
-    let first_bad_flags = if kind == SHAPE { 4 } else { 1 };
+    let no_kinds = (0..=255).filter(|&byte| !(1..=6).contains(&byte));
     let mut jobs: Vec<Job> = no_kinds.map(|byte| with(0, byte)).collect();
-    jobs.extend((first_bad_flags..=255).map(|byte| with(1, byte)));
+    jobs.extend((choices(kind)..=255).map(|byte| with(1, byte)));
     for at in unused(kind).into_iter().filter(|&at| at > 1) {
         jobs.extend((0..8).map(|bit| with(at, 1 << bit)));
         jobs.push(with(at, 255));
@@ -93,7 +92,7 @@ pub fn damage(job: &mut Job, random: &mut Random) {
         match random.below(10) {
             0 => job[0] = random.pick(&NO_KINDS),
             1 => job[0] = random.below(9) as u8,
-            2 => job[1] = random.pick(&[1, 2, 3, 4, 5, 128, 255]),
+            2 => job[1] = random.pick(&[1, 2, 3, 4, 5, 7, 8, 128, 255]),
             3 => job[random.pick(&unused(kind))] = random.pick(&[1, 2, 128, 255]),
             4 => set_word(job, BITS_AT, random.pick(&STEP_COUNTS)),
             5 => set_length(job, random.pick(&[4097, 4098, 8192, 32_768, 65_535])),

@@ -3,7 +3,7 @@
 use super::damage::{malformed, set_length, set_word, with_steps};
 use super::{runs, sound};
 use crate::calls::make::drifts::drifts;
-use crate::calls::make::fields::{frequencies, settings, Field, Holds};
+use crate::calls::make::fields::{choices, frequencies, settings, Field, Holds};
 use crate::calls::record::*;
 use crate::calls::Kinds;
 use crate::lists::job::{job, Job, JOB_BYTES};
@@ -105,8 +105,8 @@ pub fn at_ends(kind: u8) -> Vec<Job> {
         for word in field.holds.boundaries() {
             let mut job = sound(kind);
             set_word(&mut job, field.at, word);
-            if kind == SHAPE {
-                job[1] = (jobs.len() % 4) as u8;
+            if choices(kind) > 1 {
+                job[1] = jobs.len() as u8 % choices(kind);
             }
             jobs.push(job);
         }

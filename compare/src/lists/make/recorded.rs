@@ -48,7 +48,7 @@ pub fn of_kind(kind: u8) -> Vec<Vec<u8>> {
     lists.extend(ways::lists(kind));
     lists.extend(refused(kind).iter().map(|(_, jobs)| among_all(jobs)));
     match kind {
-        SHAPE => lists.push(every_flag().concat()),
+        SHAPE | CLASSIC => lists.push(every_flag(kind).concat()),
         NES => lists.extend([step_counts().concat(), depths().concat()]),
         _ => {}
     }
@@ -56,9 +56,9 @@ pub fn of_kind(kind: u8) -> Vec<Vec<u8>> {
     lists
 }
 
-fn every_flag() -> Vec<Job> {
+fn every_flag(kind: u8) -> Vec<Job> {
     let with_flags = |flags: u8| {
-        let mut job = sound(SHAPE);
+        let mut job = sound(kind);
         job[1] = flags;
         job
     };

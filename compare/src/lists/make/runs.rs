@@ -2,6 +2,7 @@
 //! far, with refused records among them; and noise.
 
 use super::damage::{damage, set_word, unused};
+use crate::calls::make::fields::choices;
 use crate::calls::make::fixed::plain;
 use crate::calls::make::setups::choose_settings;
 use crate::calls::record::*;
@@ -9,7 +10,7 @@ use crate::calls::Kinds;
 use crate::lists::job::{job, Job, JOB_BYTES};
 use crate::random::Random;
 
-const ALL: [u8; 5] = [SHAPE, SAW, SUPER_SQUARE, NES, STRING];
+const ALL: [u8; 6] = [SHAPE, SAW, SUPER_SQUARE, NES, STRING, CLASSIC];
 const LOWEST: f32 = 0.000001;
 
 pub fn list(random: &mut Random) -> Vec<u8> {
@@ -61,7 +62,7 @@ struct Settings {
 impl Settings {
     fn new(random: &mut Random) -> Self {
         Settings {
-            last: [0, 1, 2, 3, 4, 5].map(plain),
+            last: [0, 1, 2, 3, 4, 5, 6].map(plain),
             depth: 1 + random.below(16),
         }
     }
@@ -109,9 +110,13 @@ fn on_a_grid(call: &mut Record, random: &mut Random) {
         _ => {}
     }
     call.set_float(FREQUENCY_AT, part(16));
-    if matches!(call.kind(), SHAPE | SAW) {
-        call.set_float(WIDTH_OR_SHAPE_AT, part(63));
-        call.set_float(WAVESHAPE_AT, part(63));
+    match call.kind() {
+        SHAPE | SAW => {
+            call.set_float(WIDTH_OR_SHAPE_AT, part(63));
+            call.set_float(WAVESHAPE_AT, part(63));
+        }
+        CLASSIC => call.set_float(WIDTH_OR_SHAPE_AT, part(63)),
+        _ => {}
     }
 }
 
@@ -143,7 +148,7 @@ fn noise(random: &mut Random) -> Job {
     job[0] = random.below(9) as u8;
     if random.one_in(2) {
         job[0] = random.pick(&ALL);
-        job[1] &= 3;
+        job[1] %= choices(job[0]);
         for at in unused(job[0]) {
             job[at] = 0;
         }

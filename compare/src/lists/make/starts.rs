@@ -7,11 +7,11 @@ use crate::calls::make::fields::settings;
 use crate::calls::record::*;
 use crate::lists::job::Job;
 
-/// Kind, flags, block length, and the words from the step count on: step count, frequency, master
+/// Kind, flags or shape, block length, and the words from the step count on: step count, frequency, master
 /// frequency or gain, width or shape. Of two records that are a float apart, one shows the starts above
 /// and the other those below.
 #[rustfmt::skip]
-const RECORDS: [(u8, u8, u16, [u32; 4]); 23] = [
+const RECORDS: [(u8, u8, u16, [u32; 4]); 28] = [
     // master phase
     (SHAPE, 1, 66, [0, 0x3658_182d, 0x3e61_c191, 0x38fd_f07d]),
     // slave phase
@@ -51,6 +51,15 @@ const RECORDS: [(u8, u8, u16, [u32; 4]); 23] = [
     // frequency
     (STRING, 0, 700, [0, 0x3ce8_b3dc, 0x3f00_0000, 0]),
     (STRING, 0, 700, [0, 0x3ce8_b3dd, 0x3f00_0000, 0]),
+    // phase
+    (CLASSIC, 7, 27, [0, 0x3d0e_7b75, 0, 0x3ed6_1292]),
+    // high
+    (CLASSIC, 3, 32, [0, 0x3cf0_8bfe, 0, 0x3dee_1c91]),
+    // frequency
+    (CLASSIC, 6, 468, [0, 0x3b91_3a9b, 0, 0x3f45_d784]),
+    (CLASSIC, 6, 1557, [0, 0x3c9a_d12c, 0, 0x3da1_856f]),
+    // width
+    (CLASSIC, 4, 30, [0, 0x3c7d_59ff, 0, 0x3f41_121d]),
 ];
 
 /// The settings of which the counts say nothing.

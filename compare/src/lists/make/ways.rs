@@ -18,6 +18,8 @@ struct Way {
 
 const LOWEST: f32 = 0.000001;
 const TWO_TO_24: f32 = 16_777_216.0;
+/// The classic's shape: one that has a width.
+const SQUARE: u8 = 4;
 /// Where the frequencies stand that do not go the way.
 const STEADY: f32 = 0.01;
 
@@ -32,7 +34,7 @@ const fn way(kind: u8, setting: usize, from: f32, to: f32, length: u16) -> Way {
 }
 
 /// A frequency is at or below 0 at the last sample.
-const FREQUENCIES: [Way; 11] = [
+const FREQUENCIES: [Way; 13] = [
     way(SHAPE, FREQUENCY_AT, 0.24078071, LOWEST, 300),
     way(SHAPE, FREQUENCY_AT, 0.13803941, LOWEST, 1300),
     way(SHAPE, MASTER_OR_GAIN_AT, 0.24078071, LOWEST, 300),
@@ -44,6 +46,8 @@ const FREQUENCIES: [Way; 11] = [
     way(NES, FREQUENCY_AT, 0.118995965, LOWEST, 1300),
     way(STRING, FREQUENCY_AT, 0.058161594, LOWEST, 1300),
     way(STRING, FREQUENCY_AT, 0.052189678, LOWEST, 2900),
+    way(CLASSIC, FREQUENCY_AT, 0.23953797, LOWEST, 300),
+    way(CLASSIC, FREQUENCY_AT, 0.18626799, LOWEST, 1300),
 ];
 
 /// A width is at 0 or 1, at 1 long before the last sample.
@@ -56,7 +60,7 @@ const WIDTHS: [(f32, f32, u16); 3] = [
 fn ways(kind: u8) -> Vec<Way> {
     let mut ways: Vec<Way> = FREQUENCIES.into_iter().collect();
     for &(from, to, length) in &WIDTHS {
-        for kind in [SHAPE, SAW] {
+        for kind in [SHAPE, SAW, CLASSIC] {
             ways.push(way(kind, WIDTH_OR_SHAPE_AT, from, to, length));
         }
     }
@@ -72,6 +76,7 @@ fn drifting(way: &Way) -> [Job; 3] {
     }
     match (way.kind, way.setting) {
         (NES, _) => call.set_word(BITS_AT, 16),
+        (CLASSIC, _) => call.set_flags(SQUARE),
         (SHAPE, MASTER_OR_GAIN_AT) => call.set_float(FREQUENCY_AT, STEADY),
         (SHAPE, _) => call.set_float(MASTER_OR_GAIN_AT, STEADY),
         _ => {}
