@@ -8,9 +8,10 @@ from variants import FIELDS, variants
 Wrong = collections.namedtuple("Wrong", "number place what old new file region")
 
 # The files of compare/src that say what the definitions say.
-FILES = """calls/model/nes_triangle.rs calls/model/pair.rs calls/model/ramp.rs calls/model/range.rs calls/model/render.rs calls/model/start.rs
+FILES = """calls/model/classic.rs calls/model/nes_triangle.rs calls/model/others.rs calls/model/pair.rs calls/model/ramp.rs calls/model/range.rs calls/model/render.rs calls/model/start.rs
 calls/model/string_synth.rs calls/model/super_square.rs calls/model/targets.rs calls/model/variable_saw.rs calls/model/variable_shape.rs
-calls/model/words.rs calls/line.rs heard/expect.rs leaves/answers.rs lists/expect.rs lists/job.rs lists/mod.rs starts/set.rs""".split()
+calls/model/words.rs calls/line.rs heard/expect.rs leaves/answers.rs lists/expect.rs lists/job.rs lists/mod.rs starts/init.rs
+starts/set.rs""".split()
 
 # What only fills a buffer, prints or makes records says nothing that a definition says.
 PASSED_OVER = {

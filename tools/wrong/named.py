@@ -23,6 +23,7 @@ def numbers():
 
 SHAPE, SAW, SQUARE = "calls/model/variable_shape.rs", "calls/model/variable_saw.rs", "calls/model/super_square.rs"
 NES, STRING, RENDER = "calls/model/nes_triangle.rs", "calls/model/string_synth.rs", "calls/model/render.rs"
+CLASSIC, INIT = "calls/model/classic.rs", "starts/init.rs"
 
 SHAPE_SETTINGS = """frequency_parameter(call.float(FREQUENCY_AT))
             && frequency_parameter(call.float(MASTER_OR_GAIN_AT))
@@ -93,6 +94,30 @@ NAMED = [
     ),
     (STRING, "(old + 2.0 * pair.this, counts)", "the buffer overwritten", "(2.0 * pair.this, counts)"),
     (STRING, "call.float(FREQUENCY_AT) > HIGHEST", "never too high", "false"),
+    (CLASSIC, "shape != TRIANGLE && shape != SQUARE_TRIANGLE", "every shape has the width", "true"),
+    (CLASSIC, "shape != TRIANGLE && shape != SQUARE_TRIANGLE", "the triangle has the width", "shape != SQUARE_TRIANGLE"),
+    (CLASSIC, "shape != TRIANGLE && shape != SQUARE_TRIANGLE", "the square triangle has the width", "shape != TRIANGLE"),
+    (CLASSIC, "has_width(call.shape())", "the width steps for every shape", "true"),
+    (CLASSIC, "has_width(call.shape())", "the width steps for the square triangle", "call.shape() != TRIANGLE"),
+    (CLASSIC, "clipped(call.float(FREQUENCY_AT))", "the frequency not clipped", "call.float(FREQUENCY_AT)"),
+    (CLASSIC, "clamped_width(call.float(WIDTH_OR_SHAPE_AT), frequency)", "the width as it is", "call.float(WIDTH_OR_SHAPE_AT)"),
+    (CLASSIC, "clamped_width(call.float(WIDTH_OR_SHAPE_AT), frequency)", "the width clamped by the state's frequency", "clamped_width(call.float(WIDTH_OR_SHAPE_AT), self.frequency)"),
+    (CLASSIC, "self.turn(true, &mut counts)", "the wrap's change of high not counted", "self.turn(true, &mut Counts::default())"),
+    (CLASSIC, "self.turn(false, &mut counts)", "the wrap's change of high not counted", "self.turn(false, &mut Counts::default())"),
+    (CLASSIC, "self.high = high", "high kept", "()"),
+    (CLASSIC, "self.hp_state = this", "the high-pass kept", "()"),
+    (CLASSIC, "(square - self.smooth(square, frequency * 2.0)) * 0.5", "without its high-pass", "{ self.smooth(square, frequency * 2.0); square * 0.5 }"),
+    (CLASSIC, "(square - self.smooth(square, frequency * 2.0)) * 0.5", "the low-pass of the sample before", "{ let before = self.lp_state; self.smooth(square, frequency * 2.0); (square - before) * 0.5 }"),
+    (CLASSIC, "self.impulse(this)", "the impulse train without its gain", "{ let x = self.impulse(this); self.lp_state + (x - x) }"),
+    (INIT, "LOWEST_RATE <= rate && rate <= HIGHEST_RATE", "384,001 accepted", "LOWEST_RATE <= rate && rate <= 384_001.0"),
+    (INIT, "LOWEST_RATE <= rate && rate <= HIGHEST_RATE", "NaN accepted", "!(rate < LOWEST_RATE) && !(rate > HIGHEST_RATE)"),
+    (INIT, "LOWEST_RATE <= rate && rate <= HIGHEST_RATE", "negative rates accepted", "LOWEST_RATE <= rate.abs() && rate.abs() <= HIGHEST_RATE"),
+    (INIT, "LOWEST_RATE <= rate && rate <= HIGHEST_RATE", "the low end dropped", "rate <= HIGHEST_RATE"),
+    (INIT, "LOWEST_RATE <= rate && rate <= HIGHEST_RATE", "the high end dropped", "LOWEST_RATE <= rate"),
+    (INIT, "is_fit", "the state is tested too", "is_fit && f32::from_bits(state[0]) < 1.0"),
+    (INIT, "(4, *state)", "a refused rate starts all the same", "(4, initial(48_000.0))"),
+    (INIT, "(4, *state)", "a refused rate gives an empty state", "(4, [0; CLASSIC_WORDS])"),
+    (INIT, "1.0 / coefficient", "the gain computed from the rate", "rate / (0.25 * REF_SAMPLE_RATE)"),
     ("heard/expect.rs", "*state = outcome.words", "no state is carried on", "()"),
     ("lists/expect.rs", "Ok(BAD_INPUT.to_string())", "a bad list answered by the line 7", 'Ok("7\\n".to_string())'),
     ("lists/expect.rs", "Ok(BAD_INPUT.to_string())", "a bad list answered by nothing", "Ok(String::new())"),

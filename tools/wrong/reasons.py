@@ -11,11 +11,14 @@ NOTCH = "1 + 0.2 rounds to the same float"
 INSIDE = "no step comes to that end: it goes from a state in the same range to a target well inside"
 LEAST = "no step above 0 is as small as 2^-149"
 BELOW_END = "no step comes to that end: it goes from 17/64 at most (string 17/32) to a target of 0.25 at most (string 0.5)"
+SCALED = "a power of two scales the difference without another rounding, and where it overflows both are infinite"
+BETWEEN = "half of a difference, and the low-pass lies between: it does not overflow, and beside what is subnormal the other term is 0 or not changed by it"
 NEXT_ROW = "the next row asks that the byte is 0 of every kind that this one asks it of"
 NEAR_ZERO = "the number compared is 0 or at least 2^-40"
 
 NES, PAIR, RAMP, STRING = "calls/model/nes_triangle.rs", "calls/model/pair.rs", "calls/model/ramp.rs", "calls/model/string_synth.rs"
 SQUARE_WAVE, SAW, SHAPE = "calls/model/super_square.rs", "calls/model/variable_saw.rs", "calls/model/variable_shape.rs"
+CLASSIC, INIT = "calls/model/classic.rs", "starts/init.rs"
 TARGETS, RENDER, LEAVES = "calls/model/targets.rs", "calls/model/render.rs", "leaves/answers.rs"
 
 # (file, what, part of the old text, part of the new text, reason)
@@ -43,6 +46,12 @@ REASONS = [
     (SQUARE_WAVE, "regrouped", "16.0 * above * above", "16.0 * (above * above)", EXACT),
     (SQUARE_WAVE, "one float", "at_reset -= 1.0", "", "it is below 17/64 then, and is compared with 0.5 only"),
     (SQUARE_WAVE, "fused", "2.0 * pair.this - 1.0", "", DOUBLED),
+    (CLASSIC, "fused", "1.0 - 2.0 * frequency", "", EXACT),
+    (CLASSIC, "equality", "width", "", SAME_ARMS),
+    (CLASSIC, "fused", "2.0 * x - 1.0", "", DOUBLED),
+    (CLASSIC, "distributed", "(this - 0.5)", "", SCALED),
+    (CLASSIC, "distributed", "* 0.5", "square * 0.5", BETWEEN),
+    (INIT, "regrouped", "0.25 * REF_SAMPLE_RATE / rate", "", EXACT),
     (TARGETS, "", "frequency >= MAX_FREQUENCY", "", SAME_ARMS),
     (TARGETS, "", "frequency >= 0.25", "", "at 0.25 the width is clamped from 0.5 to 0.5"),
     (TARGETS, "fused", "1.0 - 2.0 * frequency", "", EXACT),

@@ -10,8 +10,8 @@ NUMBER_OR_NAME = re.compile(r"^[\w.]*\w$")
 EQUALITY = {"<": "<=", "<=": "<", ">": ">=", ">=": ">", "==": "!=", "!=": "=="}
 COUNTS = ["cycles", "rises", "falls", "cuts"]
 FIELDS = ["FREQUENCY_AT", "MASTER_OR_GAIN_AT", "WIDTH_OR_SHAPE_AT", "WAVESHAPE_AT", "PHASE_MODULATION_AT"]
-FLOAT_CONSTANTS = {"NOTCH_DEPTH", "HIGHEST", "MAX_FREQUENCY", "WHOLE_PART_END"}
-WHOLE_CONSTANTS = {"MOST_BITS", "STEPS", "LONGEST_BLOCK", "MOST_BYTES", "JOB_BYTES", "MOST_STEPS", "MOST_FLAGS"}
+FLOAT_CONSTANTS = {"NOTCH_DEPTH", "HIGHEST", "MAX_FREQUENCY", "WHOLE_PART_END", "RENDERERS_RATE", "REF_SAMPLE_RATE", "LOWEST_RATE", "HIGHEST_RATE"}
+WHOLE_CONSTANTS = {"MOST_BITS", "STEPS", "LONGEST_BLOCK", "MOST_BYTES", "JOB_BYTES", "MOST_STEPS", "MOST_FLAGS", "MOST_SHAPE"}
 RANGE = "crate::calls::model::range::"
 LOWEST = "crate::oscillator::oscillator::MIN_FREQUENCY"
 ROOMS = {"frequency_room", "gain_room", "modulation_room"}

@@ -21,7 +21,8 @@ pub fn init(state: &[u32; CLASSIC_WORDS], rate: u32) -> (u32, [u32; CLASSIC_WORD
     }
 }
 
-fn initial(rate: f32) -> [u32; CLASSIC_WORDS] {
+/// The words that the source's `init` leaves at a sample rate.
+pub fn initial(rate: f32) -> [u32; CLASSIC_WORDS] {
     let coefficient = 0.25 * REF_SAMPLE_RATE / rate;
     let gain = 1.0 / coefficient;
     [

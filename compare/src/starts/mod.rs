@@ -10,7 +10,7 @@ mod set;
 
 pub use difference::first_difference;
 pub use expect::text;
-pub use init::init;
+pub use init::{init, initial};
 pub use set::set;
 
 /// How many words the variable shape's state has.

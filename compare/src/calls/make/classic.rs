@@ -125,6 +125,8 @@ fn drifts(shape: u8) -> Vec<Record> {
     let (mut bad_width, mut bad_phase, bad_length) = (down(4096), down(4096), down(4097));
     bad_width.set_float(WIDTH_OR_SHAPE_AT, 1.0f32.next_up());
     bad_phase.set_float(state_at(0), 1.0);
+    // Both drift, the width first: the walk goes by sample, and then by parameter.
+    let both = call(shape, 4096, [LOWEST, 1.0], (0.3, 1, fast.2, 1.0));
     let width = |from, to, length, frequency| {
         let state = (0.3, 0, frequency, from);
         call(shape, length, [frequency, to], state)
@@ -136,6 +138,7 @@ fn drifts(shape: u8) -> Vec<Record> {
         bad_width,
         bad_phase,
         bad_length,
+        both,
         width(1.0, 1.0, 4096, slow),
         width(1.0, 1.0, 0, slow),
         width(1.0, 1.0, 2, slow),

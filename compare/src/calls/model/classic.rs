@@ -47,24 +47,6 @@ fn clamped_width(width: f32, frequency: f32) -> f32 {
     }
 }
 
-/// A change of `high` to this.
-fn turned(high: bool) -> Counts {
-    Counts {
-        rises: u32::from(high),
-        falls: u32::from(!high),
-        ..Counts::default()
-    }
-}
-
-fn plus(a: Counts, b: Counts) -> Counts {
-    Counts {
-        cycles: a.cycles + b.cycles,
-        rises: a.rises + b.rises,
-        falls: a.falls + b.falls,
-        cuts: a.cuts + b.cuts,
-    }
-}
-
 /// A number from 0 to 1 as one from -1 to 1.
 fn bipolar(x: f32) -> f32 {
     2.0 * x - 1.0
@@ -81,13 +63,14 @@ impl Classic {
     }
 
     /// Sets `high`, and counts it where that is a change.
-    fn turn(&mut self, high: bool) -> Counts {
-        let counts = match self.high == high {
-            true => Counts::default(),
-            false => turned(high),
-        };
+    fn turn(&mut self, high: bool, counts: &mut Counts) {
+        if high && !self.high {
+            counts.rises += 1;
+        }
+        if self.high && !high {
+            counts.falls += 1;
+        }
         self.high = high;
-        counts
     }
 
     /// Impulse train and saw: the phase itself, which falls at the wrap.
@@ -110,10 +93,11 @@ impl Classic {
         if self.high != before {
             pair.bend(-corner, (self.phase - pw) / frequency);
         }
-        let mut counts = self.turn(before);
+        let mut counts = Counts::default();
+        self.turn(before, &mut counts);
         if let Some(t) = self.wrap(frequency) {
             pair.bend(corner, t);
-            counts = plus(counts, self.turn(true));
+            self.turn(true, &mut counts);
             counts.cycles = 1;
         }
         pair.next += if self.high {
@@ -130,10 +114,11 @@ impl Classic {
         if self.high != after {
             pair.jump(1.0, (self.phase - pw) / frequency);
         }
-        let mut counts = self.turn(after);
+        let mut counts = Counts::default();
+        self.turn(after, &mut counts);
         if let Some(t) = self.wrap(frequency) {
             pair.jump(-1.0, t);
-            counts = plus(counts, self.turn(false));
+            self.turn(false, &mut counts);
             counts.cycles = 1;
         }
         pair.next += if self.phase < pw { 0.0 } else { 1.0 };

@@ -1,7 +1,7 @@
 //! The states that the source starts from, as words in the order of its fields.
 
 use crate::calls::record::{CLASSIC, NES, SAW, SHAPE, STRING, SUPER_SQUARE};
-use crate::starts::init;
+use crate::starts::initial;
 
 /// The sample rate that the renderer starts the classic with.
 const RENDERERS_RATE: f32 = 48_000.0;
@@ -52,7 +52,7 @@ pub fn start(kind: u8, initialised: bool) -> Vec<u32> {
             f(0.0),
             f(0.0),
         ],
-        (CLASSIC, true) => init(&[0; 9], f(RENDERERS_RATE)).1.to_vec(),
+        (CLASSIC, true) => initial(RENDERERS_RATE).to_vec(),
         _ => Vec::new(),
     }
 }
