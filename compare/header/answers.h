@@ -20,9 +20,9 @@ struct control {
 };
 
 #define CALL_BYTES 128
-#define PHASE_BYTES 44
-#define OSCILLATORS 5
-#define LINE_ROOM 256 /* the longest line has 165 bytes */
+#define START_BYTES 44
+#define OSCILLATORS 6
+#define LINE_ROOM 256 /* the longest line has 175 bytes */
 
 /* The line of a call record, as crates/calls prints it. */
 const char *answer_call(const struct control *control, const unsigned char record[CALL_BYTES], char line[LINE_ROOM]);
@@ -30,8 +30,8 @@ const char *answer_call(const struct control *control, const unsigned char recor
 /* The line that crates/starts prints of an exported `init`. The oscillators are counted from 0. */
 const char *answer_start(const struct control *control, size_t oscillator, char line[LINE_ROOM]);
 
-/* What crates/starts prints first for a record: the exported form of `set_master_phase`. */
-const char *answer_phase(const struct control *control, const unsigned char record[PHASE_BYTES], char line[LINE_ROOM]);
+/* What crates/starts prints of the exported forms for a record: of `set_master_phase`, then of the classic's `init`. */
+const char *answer_given(const struct control *control, const unsigned char record[START_BYTES], char line[LINE_ROOM]);
 
 #ifdef __cplusplus
 }

@@ -44,7 +44,7 @@ agrees_with_all() {
     agrees "$1" "$starts/stdin" "$room/recorded.lines" starts
     agrees "$1" "$room/calls" "$room/calls.lines" calls
     agrees "$1" "$room/starts" "$room/starts.lines" starts
-    tell "$1: $recorded recorded and $count fresh calls agree, $phases and $count phases, and the starts"
+    tell "$1: $recorded recorded and $count fresh calls agree, $phases and $count phases and rates, and the starts"
 }
 
 # try NAME COMPILER LINKER FLAG..: a program is built and held to everything. The compiler's words say the language, and a linker would take

@@ -9,12 +9,13 @@
 
 /* Where a record's parameters stand. */
 enum {
-    FLAGS_AT = 1,
+    FLAGS_AT = 1, /* or the classic's shape, or ANOTHER_CALL */
     LENGTH_AT = 2,
     BITS_AT = 4,
     FREQUENCY_AT = 8,
     MASTER_FREQUENCY_AT = 12,
     GAIN_AT = 12,
+    GIVEN_AT = 12, /* a master phase or a sample rate, for another call than `render` */
     PW_AT = 16,
     SHAPE_AT = 16,
     WAVESHAPE_AT = 20,
@@ -66,18 +67,47 @@ static uint32_t call_string_synth(const unsigned char *record, size_t count)
                                         result);
 }
 
+static uint32_t call_classic(const unsigned char *record, size_t count)
+{
+    return navuloqu_classic_render(state, float_at(record, FREQUENCY_AT), float_at(record, PW_AT), record[FLAGS_AT], out, count, result);
+}
+
+/* A call that has no result: the line has zeros in the place of its counts. */
+static uint32_t with_result(uint32_t answer)
+{
+    memset(result, 0, sizeof *result * NAVULOQU_RESULT_WORDS);
+    return result[NAVULOQU_RESULT_ANSWER] = answer;
+}
+
+static uint32_t set_master_phase(const unsigned char *record, size_t count)
+{
+    (void)count;
+    return with_result(navuloqu_variable_shape_set_master_phase(state, float_at(record, GIVEN_AT)));
+}
+
+static uint32_t init_classic(const unsigned char *record, size_t count)
+{
+    (void)count;
+    return with_result(navuloqu_classic_init(state, float_at(record, GIVEN_AT)));
+}
+
 /* By a record's first byte. */
 #define STRING_SYNTH 5
+#define CLASSIC 6
+#define ANOTHER_CALL 128 /* by the second byte: not `render` but `other` */
+#define MOST_SHAPE 7
+typedef uint32_t (*caller)(const unsigned char *record, size_t count);
 static const struct {
-    uint32_t (*call)(const unsigned char *record, size_t count);
+    caller render, other;
     size_t words;
 } kinds[] = {
-    {NULL, 0},
-    {call_variable_shape, NAVULOQU_VARIABLE_SHAPE_WORDS},
-    {call_variable_saw, NAVULOQU_VARIABLE_SAW_WORDS},
-    {call_super_square, NAVULOQU_SUPER_SQUARE_WORDS},
-    {call_nes_triangle, NAVULOQU_NES_TRIANGLE_WORDS},
-    {call_string_synth, NAVULOQU_STRING_SYNTH_WORDS},
+    {NULL, NULL, 0},
+    {call_variable_shape, set_master_phase, NAVULOQU_VARIABLE_SHAPE_WORDS},
+    {call_variable_saw, NULL, NAVULOQU_VARIABLE_SAW_WORDS},
+    {call_super_square, NULL, NAVULOQU_SUPER_SQUARE_WORDS},
+    {call_nes_triangle, NULL, NAVULOQU_NES_TRIANGLE_WORDS},
+    {call_string_synth, NULL, NAVULOQU_STRING_SYNTH_WORDS},
+    {call_classic, init_classic, NAVULOQU_CLASSIC_WORDS},
 };
 #define KINDS (sizeof kinds / sizeof *kinds)
 
@@ -121,17 +151,21 @@ static void put_outcome(char line[LINE_ROOM], uint32_t answer, size_t words, siz
     put_words(line, at, &sum, 1, '\n');
 }
 
-/* NULL where the call kept to what is its own, and the header's limits are those at which it answers so. */
-static const char *fault_of(const unsigned char *record, uint32_t answer, size_t words, size_t count)
+/* NULL where the call kept to what is its own. */
+static const char *beside_fault(size_t words, size_t count)
 {
-    const bool is_long = count > NAVULOQU_LONGEST_BLOCK;
-    const bool is_misfit = !is_long && record[0] == STRING_SYNTH && word_at(record, ENTRIES_AT) != NAVULOQU_REGISTRATION_ENTRIES;
     if (!fences_stand(state_room, words))
         return "a word beside the state's is changed";
     if (!fences_stand(result_room, NAVULOQU_RESULT_WORDS))
         return "a word beside the result's is changed";
-    if (!fences_stand(out_room, count))
-        return "a word beside the samples is changed";
+    return fences_stand(out_room, count) ? NULL : "a word beside the samples is changed";
+}
+
+/* NULL where the header's limits are those at which `render` answers so. */
+static const char *limit_fault(const unsigned char *record, uint32_t answer, size_t count)
+{
+    const bool is_long = count > NAVULOQU_LONGEST_BLOCK;
+    const bool is_misfit = !is_long && record[0] == STRING_SYNTH && word_at(record, ENTRIES_AT) != NAVULOQU_REGISTRATION_ENTRIES;
     if ((answer == NAVULOQU_LONG_BLOCK) != is_long)
         return "the longest block is not NAVULOQU_LONGEST_BLOCK";
     if ((answer == NAVULOQU_BAD_REGISTRATION) != is_misfit)
@@ -139,18 +173,53 @@ static const char *fault_of(const unsigned char *record, uint32_t answer, size_t
     return NULL;
 }
 
+/* No record has the classic's shape above 7: so the call is made again with such a number, of which any bit above the lowest three may be
+ * set. NULL where it is refused in the place of a bad parameter, and leaves everything as the record has it. */
+static const char *shape_fault(const struct control *control, const unsigned char *record, uint32_t answer, size_t count)
+{
+    const uint32_t shape = record[FLAGS_AT] | UINT32_C(8) << (record[STATE_AT] % 29);
+    const bool is_before = answer == NAVULOQU_LONG_BLOCK || answer == NAVULOQU_BAD_STATE;
+    fill(record, NAVULOQU_CLASSIC_WORDS, count);
+    const uint32_t sum = checksum(count), kept = enter(control);
+    const uint32_t refused =
+        navuloqu_classic_render(state, float_at(record, FREQUENCY_AT), float_at(record, PW_AT), shape, out, count, result);
+    if (!leave(control, kept))
+        return "MXCSR is changed";
+    if (refused != (is_before ? answer : NAVULOQU_BAD_PARAM) || refused != result[NAVULOQU_RESULT_ANSWER])
+        return "a shape above 7 is not refused in the place of a bad parameter";
+    for (size_t i = 0; i < NAVULOQU_CLASSIC_WORDS; i++)
+        if (state[i] != word_at(record, STATE_AT + 4 * i))
+            return "a shape above 7 changes the state";
+    return checksum(count) == sum ? beside_fault(NAVULOQU_CLASSIC_WORDS, count) : "a shape above 7 changes the samples";
+}
+
+/* What a record asks for: NULL where its line is '-'. */
+static caller asked(const unsigned char *record, size_t count)
+{
+    const size_t kind = record[0];
+    if (kind >= KINDS || count > LONGEST_TRIED)
+        return NULL;
+    if (record[FLAGS_AT] == ANOTHER_CALL && kinds[kind].other)
+        return kinds[kind].other;
+    return kind == CLASSIC && record[FLAGS_AT] > MOST_SHAPE ? NULL : kinds[kind].render;
+}
+
 const char *answer_call(const struct control *control, const unsigned char record[CALL_BYTES], char line[LINE_ROOM])
 {
     const size_t kind = record[0], count = (size_t)record[LENGTH_AT] | (size_t)record[LENGTH_AT + 1] << 8;
-    if (kind >= KINDS || !kinds[kind].call || count > LONGEST_TRIED) {
+    const caller call = asked(record, count);
+    if (!call) {
         put_text(line, 0, "-\n");
         return NULL;
     }
     fill(record, kinds[kind].words, count);
     const uint32_t kept = enter(control);
-    const uint32_t answer = kinds[kind].call(record, count);
+    const uint32_t answer = call(record, count);
     if (!leave(control, kept))
         return "MXCSR is changed";
     put_outcome(line, answer, kinds[kind].words, count);
-    return fault_of(record, answer, kinds[kind].words, count);
+    const char *fault = beside_fault(kinds[kind].words, count);
+    if (!fault && call == kinds[kind].render)
+        fault = limit_fault(record, answer, count);
+    return !fault && call == call_classic ? shape_fault(control, record, answer, count) : fault;
 }

@@ -20,6 +20,8 @@ uint32_t all_answers(uint32_t *state, float *out, uint32_t *result)
     CALLED(navuloqu_super_square_render(state, 0.01f, 0, out, 1, result));
     CALLED(navuloqu_nes_triangle_render(state, 0.01f, 4, out, 1, result));
     CALLED(navuloqu_string_synth_render(state, 0.01f, registration, NAVULOQU_REGISTRATION_ENTRIES, 1, out, 1, result));
+    CALLED(navuloqu_classic_init(state, 48000));
+    CALLED(navuloqu_classic_render(state, 0.01f, 0.5f, 0, out, 1, result));
     CALLED(navuloqu_guard_begin());
     return answers;
 }

@@ -56,12 +56,12 @@ static void say_calls(const struct control *control)
 
 static void say_starts(const struct control *control)
 {
-    unsigned char record[PHASE_BYTES];
+    unsigned char record[START_BYTES];
     char line[LINE_ROOM];
     for (size_t number = 0; number < OSCILLATORS; number++)
         say(answer_start(control, number, line), line, "starting state", number);
     for (size_t number = 0; read_record(record, sizeof record); number++)
-        say(answer_phase(control, record, line), line, "record", number);
+        say(answer_given(control, record, line), line, "record", number);
 }
 
 /* The first number past the answers too. */

@@ -9,9 +9,9 @@ const WORDS: usize = 8;
 
 // The archive's names carry the version of include/navuloqu.h, whose declarations these are.
 extern "C" {
-    #[link_name = "navuloqu_1_string_synth_init"]
+    #[link_name = "navuloqu_2_string_synth_init"]
     fn navuloqu_string_synth_init(state: *mut [u32; WORDS]);
-    #[link_name = "navuloqu_1_string_synth_render"]
+    #[link_name = "navuloqu_2_string_synth_render"]
     fn navuloqu_string_synth_render(
         state: *mut [u32; WORDS],
         frequency: f32,
