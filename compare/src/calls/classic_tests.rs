@@ -86,6 +86,37 @@ fn both_changes_of_high_in_one_sample_count() {
     }
 }
 
+/// Past the phase of a sample that hardly moves: a square falls there and a slope rises, and on the way
+/// back the other way round.
+#[test]
+fn a_width_that_passes_the_phase_turns_high() {
+    for shape in 0..=MOST_SHAPE {
+        for (from, to, is_up) in [(0.25, 0.75, true), (0.75, 0.25, false)] {
+            let mut record = shaped(shape);
+            record.set_length(4);
+            record.set_float(FREQUENCY_AT, 0.001);
+            record.set_float(WIDTH_OR_SHAPE_AT, to);
+            record.set_float(state_at(PHASE), 0.4);
+            record.set_float(state_at(5), 0.001);
+            record.set_float(state_at(WIDTH), from);
+            let is_slope = shape == 3;
+            record.set_word(state_at(HIGH), u32::from(is_up != is_slope));
+            let counts = call(&record).counts;
+            let counted = (counts.cycles, counts.rises, counts.falls);
+            let expected = match shape {
+                3 => (0, u32::from(is_up), u32::from(!is_up)),
+                4..=6 => (0, u32::from(!is_up), u32::from(is_up)),
+                // Half a cycle is the width: the phase stays before it.
+                2 => (0, u32::from(!is_up), 0),
+                7 => (0, 0, u32::from(is_up)),
+                _ => (0, 0, 0),
+            };
+            let high = record.word(state_at(HIGH));
+            assert_eq!(counted, expected, "shape {shape}, high {high}");
+        }
+    }
+}
+
 #[test]
 fn a_width_that_leaves_its_room_is_refused_where_it_is_stepped() {
     for shape in 0..=MOST_SHAPE {
