@@ -1,10 +1,10 @@
 // Renders a block of the super square and prints what it was told: the answer, Drift's index, cycles, rises, falls, cuts.
 // The names carry the version of include/navuloqu.h that these declarations follow: with an archive of another version they do not link.
 extern "C" {
-    #[link_name = "navuloqu_1_super_square_init"]
+    #[link_name = "navuloqu_2_super_square_init"]
     fn super_square_init(state: *mut [u32; 6]);
     #[must_use]
-    #[link_name = "navuloqu_1_super_square_render"]
+    #[link_name = "navuloqu_2_super_square_render"]
     fn super_square_render(state: *mut [u32; 6], frequency: f32, shape: f32, out: *mut f32, count: usize, result: *mut [u32; 6]) -> u32;
 }
 

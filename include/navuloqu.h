@@ -5,15 +5,17 @@
  *
  * Each oscillator has `init` and `render`, and the variable shape can have its master's phase set. They keep nothing between calls: the
  * state is the caller's, an array of 32-bit words in the order of the fields given below, floats as their bit patterns, bools as 0 or 1,
- * whole numbers in two's complement. `init` writes the words of the oscillator's initial state, which lies in its range.
+ * whole numbers in two's complement. `init` writes the words of the oscillator's initial state, which lies in its range; the classic's takes
+ * a sample rate and answers too.
  *
  * A block is a glide. Each parameter moves over the block in equal steps, up to rounding, from the value that the state holds, which is where
- * the last block ended, to the one that the call asks for (phase_modulation only with `phase_output`): a note that is to start at its pitch
- * starts from a state that holds this pitch. A step is the parameter's value for one sample. Its room is the range in which it is answered:
- * a frequency above 0 and at most 17/64 (string synth 17/32), a pulse width strictly between 0 and 1, the others as in the state.
+ * the last block ended, to the one that the call asks for (phase_modulation only with `phase_output`; the classic's pw not for
+ * NAVULOQU_TRIANGLE and NAVULOQU_SQUARE_TRIANGLE, whose width is 0.5): a note that is to start at its pitch starts from a state that holds
+ * this pitch. A step is the parameter's value for one sample. Its room is the range in which it is answered: a frequency above 0 and at most
+ * 17/64 (string synth 17/32), a pulse width strictly between 0 and 1, the others as in the state.
  *
  * An answered call may play another pitch or width than it was asked for, as the oscillators of the source do; nothing else is changed:
- *   - A frequency above 0.25 is played as 0.25: master and slave of variable shape and super square, variable saw, NES triangle.
+ *   - A frequency above 0.25 is played as 0.25: master and slave of variable shape and super square, variable saw, NES triangle, classic.
  *   - The super square's slave runs at the frequency times a factor that `shape` sets, and that product too is clipped at 0.25.
  *   - With f the frequency after its clip, a pulse width is clamped to 2 f .. 1 - 2 f; from f = 0.25 up it is 0.5.
  *   - The string synth is played an octave lower, with the registration two places higher, once above 1/16, twice above 1/8, three times
@@ -29,16 +31,20 @@
  *   super square     the master's phase                         the slave's pulse turns high and low                   yes
  *   NES triangle     its phase                                  rises: samples that reach another step; no falls       none
  *   string synth     its phase, 8 units: one of the lowest saw  rises: samples in another eighth of it; no falls       none
+ *   classic          its phase                                  `high` turns 1 and 0, which of the squares is 1 past   none
+ *                                                               the width, of triangle and slope before it, and which
+ *                                                               impulse train and saw leave as it is
  * A cut is a reset by the master that finds the slave's pulse high. A string an octave lower counts half as many cycles.
  *
  * The state's ranges: phases from 0 to below 1 (the variable saw's to 81/64 where `high` is 1, the string synth's to below 8); frequencies
  * 0 to 17/64 (string synth 17/32); pw and previous_pw 0 to 1; waveshape -1 to 2; phase_modulation and gains -16 to 16; the NES triangle's
- * step 0 to 2^num_bits - 1, the string synth's segment 0 to 7; next_sample may hold any bits. What an answered call leaves lies in them,
- * though a step may be too large for the next call's num_bits.
+ * step 0 to 2^num_bits - 1, the string synth's segment 0 to 7; next_sample may hold any bits, and so may the classic's lp_state, hp_state,
+ * impulse_train_lp_coeff and impulse_train_gain. What an answered call leaves lies in them, though a step may be too large for the next call's
+ * num_bits.
  *
  * `render` makes `count` samples in `out`, returns the answer, and writes it and what was counted to `result`. Whatever the answer but 0,
  * the state's words and all samples are as they were, and the counts are 0; with answer 0 for an empty block too. A NaN in the state after
- * an answered block that is not empty, which only next_sample can be, is the word 0x7fc00000.
+ * an answered block that is not empty, which only the words that may hold any bits can be, is the word 0x7fc00000.
  *
  * Of the caller is asked:
  *   - Pointers are valid for what is said of them here, whatever the answer, and do not overlap; none is null, also where a count is 0. A
@@ -63,18 +69,20 @@ extern "C" {
 
 /* What this header declares. Word counts, arguments and results may change with it, so that the archive's names carry it: a program that was
  * compiled with the header of another version does not link. */
-#define NAVULOQU_VERSION 1
-#define navuloqu_variable_shape_init navuloqu_1_variable_shape_init
-#define navuloqu_variable_shape_render navuloqu_1_variable_shape_render
-#define navuloqu_variable_shape_set_master_phase navuloqu_1_variable_shape_set_master_phase
-#define navuloqu_variable_saw_init navuloqu_1_variable_saw_init
-#define navuloqu_variable_saw_render navuloqu_1_variable_saw_render
-#define navuloqu_super_square_init navuloqu_1_super_square_init
-#define navuloqu_super_square_render navuloqu_1_super_square_render
-#define navuloqu_nes_triangle_init navuloqu_1_nes_triangle_init
-#define navuloqu_nes_triangle_render navuloqu_1_nes_triangle_render
-#define navuloqu_string_synth_init navuloqu_1_string_synth_init
-#define navuloqu_string_synth_render navuloqu_1_string_synth_render
+#define NAVULOQU_VERSION 2
+#define navuloqu_variable_shape_init navuloqu_2_variable_shape_init
+#define navuloqu_variable_shape_render navuloqu_2_variable_shape_render
+#define navuloqu_variable_shape_set_master_phase navuloqu_2_variable_shape_set_master_phase
+#define navuloqu_variable_saw_init navuloqu_2_variable_saw_init
+#define navuloqu_variable_saw_render navuloqu_2_variable_saw_render
+#define navuloqu_super_square_init navuloqu_2_super_square_init
+#define navuloqu_super_square_render navuloqu_2_super_square_render
+#define navuloqu_nes_triangle_init navuloqu_2_nes_triangle_init
+#define navuloqu_nes_triangle_render navuloqu_2_nes_triangle_render
+#define navuloqu_string_synth_init navuloqu_2_string_synth_init
+#define navuloqu_string_synth_render navuloqu_2_string_synth_render
+#define navuloqu_classic_init navuloqu_2_classic_init
+#define navuloqu_classic_render navuloqu_2_classic_render
 
 /* Whoever does not look at what is returned is warned by the compiler. */
 #if (defined(__cplusplus) && __cplusplus >= 201703L) || (defined(__STDC_VERSION__) && __STDC_VERSION__ > 201710L)
@@ -122,8 +130,8 @@ static inline const char *navuloqu_answer_name(uint32_t answer)
 #define NAVULOQU_RESULT_WORDS 6
 
 /* The floating-point environment. Between the two calls floats are computed as the oscillators need it, in this thread; the second puts back
- * what was there before, exception flags too. `render` and `set_master_phase` need it, `init` does not. Once around all calls of a block is
- * enough.
+ * what was there before, exception flags too. `render`, `set_master_phase` and the classic's `init` need it, the other `init` do not. Once
+ * around all calls of a block is enough.
  *
  *     const uint32_t control = navuloqu_guard_begin();
  *     const uint32_t answer = navuloqu_super_square_render(state, frequency, shape, out, count, result);
@@ -229,6 +237,36 @@ NAVULOQU_MUST_USE uint32_t navuloqu_string_synth_render(
     float gain,                                  /* 0 to 4 */
     float *out,                                  /* `count` samples, to which the block is added */
     size_t count,                                /* at most NAVULOQU_LONGEST_BLOCK */
+    uint32_t result[NAVULOQU_RESULT_WORDS]);
+
+/* Classic oscillator. State words: phase, next_sample, lp_state, hp_state, high (bool), frequency, pw, impulse_train_lp_coeff,
+ * impulse_train_gain. */
+#define NAVULOQU_CLASSIC_WORDS 9
+
+/* Its shapes. */
+#define NAVULOQU_IMPULSE_TRAIN 0
+#define NAVULOQU_SAW 1
+#define NAVULOQU_TRIANGLE 2
+#define NAVULOQU_SLOPE 3
+#define NAVULOQU_SQUARE 4
+#define NAVULOQU_SQUARE_BRIGHT 5
+#define NAVULOQU_SQUARE_DARK 6
+#define NAVULOQU_SQUARE_TRIANGLE 7
+
+/* The initial state at a sample rate, whatever the words were. Returns NAVULOQU_DONE; or NAVULOQU_BAD_PARAM where the rate is not from 8,000
+ * to 384,000, and no word has changed: words that were no state before are none still. */
+NAVULOQU_MUST_USE uint32_t navuloqu_classic_init(
+    uint32_t state[NAVULOQU_CLASSIC_WORDS],
+    float sample_rate); /* in samples per second: 8000 to 384000; only NAVULOQU_IMPULSE_TRAIN depends on it */
+
+/* A refused block leaves what `out` held: used again, the buffer repeats the last block. */
+NAVULOQU_MUST_USE uint32_t navuloqu_classic_render(
+    uint32_t state[NAVULOQU_CLASSIC_WORDS], /* read; after answer 0 the state that the block left */
+    float frequency,                        /* in cycles per sample: 0.000001 to 1; above 0.25 as 0.25 */
+    float pw,                               /* the pulse width: 0 to 1 whatever the shape, clamped by the frequency */
+    uint32_t shape,                         /* NAVULOQU_IMPULSE_TRAIN to NAVULOQU_SQUARE_TRIANGLE, else NAVULOQU_BAD_PARAM */
+    float *out,                             /* `count` samples, overwritten */
+    size_t count,                           /* at most NAVULOQU_LONGEST_BLOCK */
     uint32_t result[NAVULOQU_RESULT_WORDS]);
 
 #ifdef __cplusplus

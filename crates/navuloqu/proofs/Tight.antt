@@ -4,17 +4,20 @@ use Rattle.floats.specs.Contracts.{Determines}
 use Rattle.floats.proofs.Contracts.{coincide}
 use Rattle.words.proofs.Faces.{same-face}
 use Rattle.variable_shape_face.specs.Words.{SetFace}
-use Rattle.navuloqu.proofs.variable_shape.navuloqu_1_variable_shape_init as variable_shape_init
-use Rattle.navuloqu.proofs.variable_shape.navuloqu_1_variable_shape_render as variable_shape_render
-use Rattle.navuloqu.proofs.variable_shape.navuloqu_1_variable_shape_set_master_phase as variable_shape_set_master_phase
-use Rattle.navuloqu.proofs.variable_saw.navuloqu_1_variable_saw_init as variable_saw_init
-use Rattle.navuloqu.proofs.variable_saw.navuloqu_1_variable_saw_render as variable_saw_render
-use Rattle.navuloqu.proofs.super_square.navuloqu_1_super_square_init as super_square_init
-use Rattle.navuloqu.proofs.super_square.navuloqu_1_super_square_render as super_square_render
-use Rattle.navuloqu.proofs.nes_triangle.navuloqu_1_nes_triangle_init as nes_triangle_init
-use Rattle.navuloqu.proofs.nes_triangle.navuloqu_1_nes_triangle_render as nes_triangle_render
-use Rattle.navuloqu.proofs.string_synth.navuloqu_1_string_synth_init as string_synth_init
-use Rattle.navuloqu.proofs.string_synth.navuloqu_1_string_synth_render as string_synth_render
+use Rattle.classic_face.specs.Words.{StartFace}
+use Rattle.navuloqu.proofs.variable_shape.navuloqu_2_variable_shape_init as variable_shape_init
+use Rattle.navuloqu.proofs.variable_shape.navuloqu_2_variable_shape_render as variable_shape_render
+use Rattle.navuloqu.proofs.variable_shape.navuloqu_2_variable_shape_set_master_phase as variable_shape_set_master_phase
+use Rattle.navuloqu.proofs.variable_saw.navuloqu_2_variable_saw_init as variable_saw_init
+use Rattle.navuloqu.proofs.variable_saw.navuloqu_2_variable_saw_render as variable_saw_render
+use Rattle.navuloqu.proofs.super_square.navuloqu_2_super_square_init as super_square_init
+use Rattle.navuloqu.proofs.super_square.navuloqu_2_super_square_render as super_square_render
+use Rattle.navuloqu.proofs.nes_triangle.navuloqu_2_nes_triangle_init as nes_triangle_init
+use Rattle.navuloqu.proofs.nes_triangle.navuloqu_2_nes_triangle_render as nes_triangle_render
+use Rattle.navuloqu.proofs.string_synth.navuloqu_2_string_synth_init as string_synth_init
+use Rattle.navuloqu.proofs.string_synth.navuloqu_2_string_synth_render as string_synth_render
+use Rattle.navuloqu.proofs.classic.navuloqu_2_classic_init as classic_init
+use Rattle.navuloqu.proofs.classic.navuloqu_2_classic_render as classic_render
 
 pub variable-shape-init-tight : Determines variable_shape_init.ended variable_shape_init.Reads.Learnt
 variable-shape-init-tight κs a r q v w h k = (refl, rw (coincide h k))
@@ -48,3 +51,9 @@ string-synth-init-tight κs a r q v w h k = (refl, rw (coincide h k))
 
 pub string-synth-render-tight : Determines string_synth_render.ended string_synth_render.Reads.Learnt
 string-synth-render-tight κs a r q v w h k = let o = same-face (coincide h k) in (o .0, rw (o .1, o .2, o .3))
+
+pub classic-init-tight : Determines classic_init.ended classic_init.Reads.Learnt
+classic-init-tight κs a r q v w h k = let e = coincide h k in (ap (λ (f : StartFace). f .number) e, ap (λ (f : StartFace). (f .words, (tt, tt))) e)
+
+pub classic-render-tight : Determines classic_render.ended classic_render.Reads.Learnt
+classic-render-tight κs a r q v w h k = let o = same-face (coincide h k) in (o .0, rw (o .1, o .2, o .3))

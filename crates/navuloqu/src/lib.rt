@@ -1,5 +1,6 @@
 // The face for other languages: one function for `init` and one for `render` of each oscillator, over lent arrays of 32-bit words.
 // include/navuloqu.h declares them for C. Each is its oscillator's own face under a name of the archive, which exports this crate's functions alone.
+pub mod classic;
 pub mod nes_triangle;
 pub mod string_synth;
 pub mod super_square;

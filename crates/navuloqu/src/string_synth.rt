@@ -4,7 +4,7 @@ ghost use Rattle.string_synth_face.specs.Words.{initWords, renderFace};
 
 // Passed on, as all below: an archive exports the functions of its own crate alone.
 #[no_mangle]
-pub extern "C" fn navuloqu_1_string_synth_init(words: &mut [u32; 8])
+pub extern "C" fn navuloqu_2_string_synth_init(words: &mut [u32; 8])
     ensures { λ r. ⌜ now (words .exit) ≡ initWords ⌝ }
 {
     string_synth_face::init(words);
@@ -12,7 +12,7 @@ pub extern "C" fn navuloqu_1_string_synth_init(words: &mut [u32; 8])
 
 // A block, added to what the buffer holds.
 #[no_mangle]
-pub extern "C" fn navuloqu_1_string_synth_render(
+pub extern "C" fn navuloqu_2_string_synth_render(
     words: &mut [u32; 8],
     frequency: f32,
     registration: &[f32],
