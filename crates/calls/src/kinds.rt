@@ -1,4 +1,5 @@
-// The call of each kind, with its fields of the record, and the line of what it left.
+// The block of each kind, with its fields of the record, and the line of what it left.
+use crate::line;
 use crate::record;
 
 // The line of a variable shape's call: the result, the words after it, the checksum. Likewise below for each kind.
@@ -22,7 +23,7 @@ pub(crate) fn put_variable_shape(
         out,
         &mut result,
     );
-    put_outcome(text, answer, &result, words, out)
+    line::put_outcome(text, answer, &result, words, out)
 }
 
 // The variable saw's, of seven words.
@@ -42,7 +43,7 @@ pub(crate) fn put_variable_saw(
         out,
         &mut result,
     );
-    put_outcome(text, answer, &result, words, out)
+    line::put_outcome(text, answer, &result, words, out)
 }
 
 // The super square's, of six words.
@@ -61,7 +62,7 @@ pub(crate) fn put_super_square(
         out,
         &mut result,
     );
-    put_outcome(text, answer, &result, words, out)
+    line::put_outcome(text, answer, &result, words, out)
 }
 
 // The NES triangle's, of five words.
@@ -80,7 +81,7 @@ pub(crate) fn put_nes_triangle(
         out,
         &mut result,
     );
-    put_outcome(text, answer, &result, words, out)
+    line::put_outcome(text, answer, &result, words, out)
 }
 
 // The string's, of eight words; the buffer's old samples are part of its sum.
@@ -102,37 +103,25 @@ pub(crate) fn put_string_synth(
         out,
         &mut result,
     );
-    put_outcome(text, answer, &result, words, out)
+    line::put_outcome(text, answer, &result, words, out)
 }
 
-// What a call gave and left: the result in decimal, then the state's words and the checksum in hexadecimal.
-fn put_outcome(
+// The classic's, of nine words.
+pub(crate) fn put_classic(
     text: &mut [u8],
-    returned: u32,
-    result: &[u32; 6],
-    words: &[u32],
-    out: &[f32],
+    record: &[u8; 128],
+    words: &mut [u32; 9],
+    out: &mut [f32],
 ) -> usize {
-    let numbers = put_result(text, returned, result);
-    let state = testing::put_words(text, numbers, words, b' ');
-    testing::put_word(text, state, testing::checksum(out), b'\n')
-}
-
-// The six words of a result, in decimal.
-fn put_result(text: &mut [u8], returned: u32, result: &[u32; 6]) -> usize {
-    let answer = put_answer(text, returned, result[0]);
-    let index = testing::put_number(text, answer, result[1], b' ');
-    let cycles = testing::put_number(text, index, result[2], b' ');
-    let rises = testing::put_number(text, cycles, result[3], b' ');
-    let falls = testing::put_number(text, rises, result[4], b' ');
-    testing::put_number(text, falls, result[5], b' ')
-}
-
-// The answer, which is returned and is the result's first word too: where the two differ there is no such number.
-fn put_answer(text: &mut [u8], returned: u32, told: u32) -> usize {
-    if returned == told {
-        testing::put_number(text, 0, returned, b' ')
-    } else {
-        testing::put(text, 0, b"? ")
-    }
+    record::read_state(record, words);
+    let mut result = [0u32; 6];
+    let answer = navuloqu::classic::navuloqu_2_classic_render(
+        words,
+        record::float_at(record, 8),
+        record::float_at(record, 16),
+        record::shape(record),
+        out,
+        &mut result,
+    );
+    line::put_outcome(text, answer, &result, words, out)
 }

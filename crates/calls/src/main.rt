@@ -1,6 +1,8 @@
 // Test program: reads call records of 128 bytes from standard input, makes each call through the face for other languages, and prints a line
 // with what it left. A last record that is not whole is left out.
 mod kinds;
+mod line;
+mod others;
 mod record;
 mod samples;
 
@@ -38,11 +40,29 @@ fn put_line(text: &mut [u8], record: &[u8; 128]) -> usize {
 fn put_call(text: &mut [u8], record: &[u8; 128], out: &mut [f32]) -> usize {
     samples::fill(out, testing::word_at(record, 60));
     match record[0] {
-        1 => kinds::put_variable_shape(text, record, &mut [0u32; 10], out),
+        1 => put_variable_shape(text, record, out),
         2 => kinds::put_variable_saw(text, record, &mut [0u32; 7], out),
         3 => kinds::put_super_square(text, record, &mut [0u32; 6], out),
         4 => kinds::put_nes_triangle(text, record, &mut [0u32; 5], out),
         5 => kinds::put_string_synth(text, record, &mut [0u32; 8], out),
+        6 => put_classic(text, record, out),
+        _ => put_dash(text),
+    }
+}
+
+// The variable shape's: a block, or with 128 in place of its flags the master's phase set.
+fn put_variable_shape(text: &mut [u8], record: &[u8; 128], out: &mut [f32]) -> usize {
+    match record[1] {
+        128 => others::put_master_phase(text, record, &mut [0u32; 10], out),
+        _ => kinds::put_variable_shape(text, record, &mut [0u32; 10], out),
+    }
+}
+
+// The classic's: a block of a shape, or with 128 in its place a start. No other number is a shape's.
+fn put_classic(text: &mut [u8], record: &[u8; 128], out: &mut [f32]) -> usize {
+    match record[1] {
+        0..=7 => kinds::put_classic(text, record, &mut [0u32; 9], out),
+        128 => others::put_start(text, record, &mut [0u32; 9], out),
         _ => put_dash(text),
     }
 }

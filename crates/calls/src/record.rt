@@ -22,6 +22,11 @@ pub(crate) fn phase_output(record: &[u8; 128]) -> bool {
     record[1] / 2 % 2 == 1
 }
 
+// The classic's shape stands in place of flags.
+pub(crate) fn shape(record: &[u8; 128]) -> u32 {
+    testing::word_at(record, 0) / 0x100 % 0x100
+}
+
 // The seven registration entries, and an eighth that is 0.
 pub(crate) fn registration(record: &[u8; 128]) -> [f32; 8] {
     [
