@@ -64,6 +64,21 @@ pub(crate) fn of_string_synth(s: string_synth::State) -> [u32; 8] {
     ]
 }
 
+// The classic's.
+pub(crate) fn of_classic(s: classic::State) -> [u32; 9] {
+    [
+        floats::to_bits(s.phase),
+        floats::to_bits(s.next_sample),
+        floats::to_bits(s.lp_state),
+        floats::to_bits(s.hp_state),
+        block::one_if(s.high),
+        floats::to_bits(s.frequency),
+        floats::to_bits(s.pw),
+        floats::to_bits(s.impulse_train_lp_coeff),
+        floats::to_bits(s.impulse_train_gain),
+    ]
+}
+
 // The variable shape's state of any ten words. A word for `high` stands for true unless it is 0.
 pub(crate) fn variable_shape_of(w: [u32; 10]) -> variable_shape::State {
     variable_shape::State {
@@ -77,5 +92,20 @@ pub(crate) fn variable_shape_of(w: [u32; 10]) -> variable_shape::State {
         pw: floats::from_bits(w[7]),
         waveshape: floats::from_bits(w[8]),
         phase_modulation: floats::from_bits(w[9]),
+    }
+}
+
+// The classic's of any nine, likewise.
+pub(crate) fn classic_of(w: [u32; 9]) -> classic::State {
+    classic::State {
+        phase: floats::from_bits(w[0]),
+        next_sample: floats::from_bits(w[1]),
+        lp_state: floats::from_bits(w[2]),
+        hp_state: floats::from_bits(w[3]),
+        high: w[4] != 0,
+        frequency: floats::from_bits(w[5]),
+        pw: floats::from_bits(w[6]),
+        impulse_train_lp_coeff: floats::from_bits(w[7]),
+        impulse_train_gain: floats::from_bits(w[8]),
     }
 }

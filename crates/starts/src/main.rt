@@ -1,6 +1,8 @@
-// Test program: prints the states that each oscillator starts from. Then reads records of 44 bytes from standard input, a state's ten words and a phase,
-// and prints for each what the three forms of the variable shape's `set_master_phase` answered and left. A last record that is not whole is left out.
+// Test program: prints the states that each oscillator starts from. Then reads records of 44 bytes from standard input, a state's ten words and a float,
+// and prints for each what the three forms of the variable shape's `set_master_phase` and the two of the classic's `init` answered and left, the float
+// their phase and their sample rate. A last record that is not whole is left out.
 mod fields;
+mod rating;
 mod record;
 mod setting;
 mod starting;
@@ -22,5 +24,10 @@ fn answer_next() -> bool {
     if !streams::fill(b"starts", &mut input) {
         return false;
     }
-    setting::say_forms(record::state_words(&input), record::phase(&input))
+    let mut space = [0u8; 442];
+    let text: &mut [u8] = &mut space;
+    let given = record::given(&input);
+    let set = setting::put_forms(text, record::state_words(&input), given);
+    let end = rating::put_forms(text, set, record::classic_words(&input), given);
+    streams::write(b"starts", testing::front(text, end))
 }

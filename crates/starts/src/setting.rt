@@ -5,16 +5,13 @@ use crate::fields;
 use variable_shape::PhaseSet;
 use variable_shape::State;
 
-// The line: exported, by value and lent, each with its answer and the words that it left.
-pub(crate) fn say_forms(words: [u32; 10], phase: f32) -> bool {
-    let mut space = [0u8; 276];
-    let text: &mut [u8] = &mut space;
+// The line's beginning: exported, by value and lent, each with its answer and the words that it left.
+pub(crate) fn put_forms(text: &mut [u8], words: [u32; 10], phase: f32) -> usize {
     let exported = put_exported(text, words, phase);
     let set = variable_shape::set_master_phase(fields::variable_shape_of(words), phase);
-    let by_value = put_set(text, exported, set, b' ');
+    let by_value = put_set(text, exported, set);
     let lent = set_lent(fields::variable_shape_of(words), phase);
-    let end = put_set(text, by_value, lent, b'\n');
-    streams::write(b"starts", testing::front(text, end))
+    put_set(text, by_value, lent)
 }
 
 // The exported form, over words.
@@ -24,11 +21,11 @@ fn put_exported(text: &mut [u8], words: [u32; 10], phase: f32) -> usize {
         &mut left,
         phase,
     );
-    put_left(text, 0, number, &left, b' ')
+    put_left(text, 0, number, &left)
 }
 
 // An answer's number and the state's words.
-fn put_set(text: &mut [u8], at: usize, set: PhaseSet, last: u8) -> usize {
+fn put_set(text: &mut [u8], at: usize, set: PhaseSet) -> usize {
     let answer = set.answer;
     let state = set.state;
     put_left(
@@ -36,14 +33,13 @@ fn put_set(text: &mut [u8], at: usize, set: PhaseSet, last: u8) -> usize {
         at,
         block::number(answer),
         &fields::of_variable_shape(state),
-        last,
     )
 }
 
 // It takes an array by reference, whose length needs no proof.
-fn put_left(text: &mut [u8], at: usize, number: u32, words: &[u32; 10], last: u8) -> usize {
+fn put_left(text: &mut [u8], at: usize, number: u32, words: &[u32; 10]) -> usize {
     let answer = testing::put_number(text, at, number, b' ');
-    testing::put_words(text, answer, words, last)
+    testing::put_words(text, answer, words, b' ')
 }
 
 // The form on a lent state, with the state by value: here it is lent, and handed back with the answer.

@@ -8,6 +8,7 @@ pub(crate) fn say_all() -> bool {
         && say_super_square()
         && say_nes_triangle()
         && say_string_synth()
+        && say_classic()
 }
 
 // What `new` gives, what `init` gives, and the words that the exported `init` leaves; likewise below.
@@ -60,6 +61,17 @@ fn say_string_synth() -> bool {
         && say_state(b"string synth, exported init: ", &exported)
 }
 
+// The classic's three, at the renderer's sample rate.
+fn say_classic() -> bool {
+    let new = fields::of_classic(classic::new());
+    let started = classic::init(classic::new(), 48000.0);
+    let init = fields::of_classic(started.state);
+    let exported = exported_classic();
+    say_state(b"classic, new: ", &new)
+        && say_state(b"classic, init: ", &init)
+        && say_state(b"classic, exported init: ", &exported)
+}
+
 // A line with a name and the words of a state.
 fn say_state(name: &[u8], words: &[u32]) -> bool {
     let mut space = [0u8; 128];
@@ -101,5 +113,12 @@ fn exported_nes_triangle() -> [u32; 5] {
 fn exported_string_synth() -> [u32; 8] {
     let mut words = [0xffff_ffffu32; 8];
     navuloqu::string_synth::navuloqu_2_string_synth_init(&mut words);
+    words
+}
+
+// The classic's. Where it is refused, the words stay.
+fn exported_classic() -> [u32; 9] {
+    let mut words = [0xffff_ffffu32; 9];
+    navuloqu::classic::navuloqu_2_classic_init(&mut words, 48000.0);
     words
 }
