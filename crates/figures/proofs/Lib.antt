@@ -1,3 +1,4 @@
--- The claims over the table of figures, and of the Drift figure.
+-- The claims over the two tables, and of the Drift figure.
 pub mod Figures
+pub mod Classic
 pub mod Drift

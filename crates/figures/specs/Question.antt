@@ -17,6 +17,8 @@ use Rattle.super_square.specs.Block.{factorOf}
 use Rattle.ranges.specs.Targets.{clampedWidth}
 use Rattle.variable_saw.specs.Figures as Saw
 use Rattle.variable_shape.specs.Figures as Shape
+use Rattle.classic.specs.declared.OscillatorShape.{OscillatorShape}
+use Rattle.figures.specs.Classic as Classic
 
 pub data Question : Type 0 where
   thisBlep : Question
@@ -29,6 +31,8 @@ pub data Question : Type 0 where
   pulseWidth : Question
   sawSamples : Question
   shapeSample : Question
+  classicSample : OscillatorShape → Question
+  classicStart : Question
 
 -- input k as it stands, and as a float
 abbrev input : List ℕ → ℕ → ℕ
@@ -76,7 +80,7 @@ shapeFigure phase step width =
     t .counts .rises ∷ t .counts .falls ∷ t .counts .cycles ∷ toBits binary32 (t .state .«slave_phase») ∷ []
 
 -- an interpolation's inputs are the value, the target and the number of steps; a sample's are the phase, the step and the width, if it has one;
--- a pulse width's are the frequency and the width; every other question has one input
+-- a pulse width's are the frequency and the width; a classic sample's are its state's words and its two steps; every other question has one input
 abbrev pub answerTo : Question → List ℕ → List ℕ
 answerTo thisBlep inputs = one (thisBlepSample (float inputs 0))
 answerTo nextBlep inputs = one (nextBlepSample (float inputs 0))
@@ -88,3 +92,5 @@ answerTo superSquareSample inputs = resetFigure (float inputs 0) (float inputs 1
 answerTo pulseWidth inputs = one (clampedWidth (float inputs 0) (float inputs 1))
 answerTo sawSamples inputs = sawFigure (float inputs 0) (float inputs 1) (float inputs 2)
 answerTo shapeSample inputs = shapeFigure (float inputs 0) (float inputs 1) (float inputs 2)
+answerTo (classicSample shape) inputs = Classic.sampleFigure shape inputs
+answerTo classicStart inputs = Classic.startFigure (float inputs 0)

@@ -8,7 +8,7 @@ pub record Row : Type 0 where
   pub inputs : List ℕ
   pub expected : List ℕ
 
-abbrev row : Question → List ℕ → List ℕ → Row
+abbrev pub row : Question → List ℕ → List ℕ → Row
 row asked inputs expected = record { asked = asked; inputs = inputs; expected = expected }
 
 abbrev pub rows : List Row

@@ -1,1 +1,1 @@
-// 01's figures: a table of rows in specs/, and in proofs/ one claim over all of them, and the Drift figure. There is nothing to run.
+// 01's figures, and samples of the classic oscillator: two tables of rows in specs/, in proofs/ one claim over each, and the Drift figure. There is nothing to run.
