@@ -1,4 +1,4 @@
--- Demand 1, for any oscillator that has the laws, and so for the five. Assumes nothing.
+-- Demand 1, for any oscillator that has the laws, and so for the six. Assumes nothing.
 use mathlib.Core.Path.{_≡_, subst}
 use mathlib.Core.Bool.{Bool, true}
 use Prim.Native.Nat.{ℕ, _≤_}
@@ -23,6 +23,8 @@ use Rattle.nes_triangle.proofs.Phase as Nes
 use Rattle.string_synth.specs.Block.{stateIn, registrationIn, Arguments, stringSynth}
 use Rattle.string_synth.proofs.Phase as String
 use Rattle.string_synth.proofs.Accepted.{too-high-is-5}
+use Rattle.classic.specs.Block.{classic as classicOscillator}
+use Rattle.classic.proofs.Phase as Classic
 use Rattle.demands.specs.Demand1.{Demand1}
 
 pub demand1 : {S A : Type 0} {o : Oscillator S A} {Valid : A → S → Type 0} {w e : ℕ} → Laws o Valid w e → Demand1 o
@@ -49,6 +51,9 @@ nes-triangle = demand1 Nes.laws
 
 pub string-synth : Demand1 stringSynth
 string-synth = demand1 String.laws
+
+pub classic : Demand1 classicOscillator
+classic = demand1 Classic.laws
 
 -- "A string pitch too high has a number of its own": above 0.5 and at most 1 it is refused with 5, where nothing that is tested before it is unfit
 pub string-too-high : (s : State) (a : Arguments) → length (a .buffer) ≤ 4096 → length (a .registration) ≡ 7 → stateIn s ≡ true → registrationIn (a .registration) ≡ true

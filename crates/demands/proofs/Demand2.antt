@@ -1,4 +1,4 @@
--- Demand 2, for any oscillator that has the laws, and so for the five. Assumes nothing.
+-- Demand 2, for any oscillator that has the laws, and so for the six. Assumes nothing.
 use mathlib.Core.Bool.{Bool}
 use Prim.Native.Nat.{ℕ}
 use Rattle.block.specs.Oscillator.{Oscillator}
@@ -14,6 +14,8 @@ use Rattle.nes_triangle.specs.Block.{nesTriangle}
 use Rattle.nes_triangle.proofs.Phase as Nes
 use Rattle.string_synth.specs.Block.{stringSynth}
 use Rattle.string_synth.proofs.Phase as String
+use Rattle.classic.specs.Block.{classic as classicOscillator}
+use Rattle.classic.proofs.Phase as Classic
 use Rattle.demands.specs.Demand2.{Demand2}
 
 pub demand2 : {S A : Type 0} {o : Oscillator S A} {Valid : A → S → Type 0} {w e : ℕ} → Laws o Valid w e → Demand2 o
@@ -33,3 +35,6 @@ nes-triangle = demand2 Nes.laws
 
 pub string-synth : Demand2 stringSynth
 string-synth = demand2 String.laws
+
+pub classic : Demand2 classicOscillator
+classic = demand2 Classic.laws
