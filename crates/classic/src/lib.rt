@@ -7,7 +7,7 @@ ghost use Rattle.block.specs.Fit.{Guarded, Playable, playedOf};
 ghost use Rattle.classic.specs.State.{newState};
 ghost use Rattle.classic.specs.Sample.{sampleAt};
 ghost use Rattle.classic.specs.Block.{stateIn, parametersIn, rooms, renderOf, asCall};
-ghost use Rattle.classic.specs.Private.{Valid, courses, others, refused, widthRoom};
+ghost use Rattle.classic.specs.Private.{Valid, courses, others, refused};
 use block::Answer;
 use block::Counts;
 use parameter_interpolator::ParameterInterpolator;
@@ -151,17 +151,6 @@ fn glides(s: State, frequency: f32, pw: f32, shape: OscillatorShape, n: u32) -> 
     }
 }
 
-// The width takes steps, and so has a room, for all shapes but two.
-fn width_room(shape: OscillatorShape) -> Room
-    ensures { λ r. ⌜ r ≡ widthRoom shape ⌝ }
-{
-    if shapes::steps_width(shape) {
-        Room::PulseWidth
-    } else {
-        Room::Unused
-    }
-}
-
 // Drift where a step leaves its room, else the samples.
 fn drift_or_play(state: State, glides: Glides, shape: OscillatorShape, out: &mut [f32]) -> Rendered
     requires { ⌜ Guarded Valid (rooms shape) state (used (rooms shape) (glides .interpolators)) (glides .safe) (now out) ⌝ }
@@ -169,7 +158,7 @@ fn drift_or_play(state: State, glides: Glides, shape: OscillatorShape, out: &mut
 {
     let kept = [
         Room::Frequency,
-        width_room(shape),
+        shapes::width_room(shape),
         Room::Unused,
         Room::Unused,
         Room::Unused,

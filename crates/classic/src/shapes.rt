@@ -1,7 +1,9 @@
 // The eight shapes: by number, and which of them step the width.
 ghost use mathlib.Core.Path.{_≡_};
 ghost use Rattle.classic.specs.Shapes.{numbered, stepsWidth, widthOf, keptWidth};
+ghost use Rattle.classic.specs.Private.{widthRoom};
 use crate::OscillatorShape;
+use rooms::Room;
 
 // What a number names.
 pub enum Named {
@@ -54,4 +56,15 @@ pub(crate) fn kept_width(shape: OscillatorShape, step: f32, pw: f32) -> f32
     ensures { λ r. ⌜ r ≡ keptWidth shape step pw ⌝ }
 {
     if steps_width(shape) { step } else { pw }
+}
+
+// The width takes steps, and so has a room, for all shapes but two.
+pub(crate) fn width_room(shape: OscillatorShape) -> Room
+    ensures { λ r. ⌜ r ≡ widthRoom shape ⌝ }
+{
+    if steps_width(shape) {
+        Room::PulseWidth
+    } else {
+        Room::Unused
+    }
 }
