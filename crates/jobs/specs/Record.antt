@@ -56,7 +56,7 @@ classicBy frequency pw (Shape shape) = Play (Classic frequency pw shape)
 unfoldable pub classicOf : List ℕ → Asked
 classicOf p = classicBy (floatAt p 8) (floatAt p 16) (numbered (getD p 1 0))
 
--- "kind: 1 shape, 2 saw, 3 super square, 4 NES, 5 string"; 02 (i): "record kind 6"; "as are kinds 7 to 255", and 0, BadRecord
+-- "kind: 1 shape, 2 saw, 3 super square, 4 NES, 5 string"; 02 (i): "record kind 6", and BadRecord are "kinds 7 to 255" and, as before, 0
 unfoldable pub byKindOf : ℕ → List ℕ → Asked
 byKindOf kind p =
     cond (eqb kind 1) (shapeOf p)
