@@ -1,6 +1,8 @@
-// Test program: the figures of the request that are run, each with its name: how long a block may be, how long a registration is, how high a string goes, and where the saw drifts.
+// Test program: the figures of the request that are run, each with its name: how long a block may be, how long a registration is, how high a string goes, where the saw drifts, and
+// which sample rates the classic oscillator starts at.
 ghost use Prim.Native.Nat.{_≤_};
 use block::Answer;
+use classic::OscillatorShape;
 
 // One line for each figure, in the request's order, and all of them written at once.
 fn main() {
@@ -9,7 +11,8 @@ fn main() {
     let pairs = put_pairs(text);
     let blocks = put_singles(text, pairs);
     let strings = put_strings(text, blocks);
-    let end = put_drift(text, strings);
+    let drift = put_drift(text, strings);
+    let end = put_rates(text, drift);
     streams::write(b"boundaries", testing::front(text, end));
 }
 
@@ -47,13 +50,14 @@ fn put_singles(text: &mut [u8], at: usize) -> usize {
         nes_triangle_of(4096),
         nes_triangle_of(4097),
     );
-    put_lengths(
+    let string = put_lengths(
         text,
         nes,
         b"string synth",
         string_synth_of(4096, 7, 0.5),
         string_synth_of(4097, 7, 0.5),
-    )
+    );
+    put_lengths(text, string, b"classic", classic_of(4096), classic_of(4097))
 }
 
 // The longest block, and one sample more.
@@ -107,6 +111,29 @@ fn put_drift(text: &mut [u8], at: usize) -> usize {
         b", index of Drift: ",
         block::index(drift),
     )
+}
+
+// The lowest and the highest sample rate, and the floats beside them.
+fn put_rates(text: &mut [u8], at: usize) -> usize {
+    let whose = b"classic";
+    let lowest = put(
+        text,
+        at,
+        whose,
+        b", sample rate 8,000: ",
+        started_at(8000.0),
+    );
+    let next_down = started_at(floats::from_bits(0x45f9_ffff));
+    let below = put(text, lowest, whose, b", the next float down: ", next_down);
+    let highest = put(
+        text,
+        below,
+        whose,
+        b", sample rate 384,000: ",
+        started_at(384000.0),
+    );
+    let next_up = started_at(floats::from_bits(0x48bb_8001));
+    put(text, highest, whose, b", the next float up: ", next_up)
 }
 
 // The answer's number to a block of n samples from the initial state, at the highest pitch that each plays unclipped.
@@ -165,6 +192,26 @@ fn string_synth_of(n: usize, places: usize, frequency: f32) -> u32
         &mut out[0..n],
     );
     let answer = r.answer;
+    block::number(answer)
+}
+
+// The classic's, of its first shape.
+fn classic_of(n: usize) -> u32
+    requires { ⌜ n ≤ 4097 ⌝ }
+{
+    let mut out = [0.0f32; 4097];
+    let started = classic::init(classic::new(), 48000.0);
+    let state = started.state;
+    let shape = OscillatorShape::ImpulseTrain;
+    let r = classic::render(state, 0.25, 0.5, shape, &mut out[0..n]);
+    let answer = r.answer;
+    block::number(answer)
+}
+
+// And that to a start at a sample rate.
+fn started_at(sample_rate: f32) -> u32 {
+    let started = classic::init(classic::new(), sample_rate);
+    let answer = started.answer;
     block::number(answer)
 }
 
