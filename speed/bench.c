@@ -53,7 +53,7 @@ static void check(const struct cell *cell)
 
 static void print_heading(void)
 {
-    printf("| oscillator          | pitch  | block | %8s |", implementations[0].name);
+    printf("| oscillator              | pitch  | block | %8s |", implementations[0].name);
     for (size_t k = 1; k < IMPLEMENTATION_COUNT; k++)
         printf(" %8s | ratio |", implementations[k].name);
     printf("\n|---|---|---|---|");
@@ -64,7 +64,7 @@ static void print_heading(void)
 
 static void print_row(const struct cell *cell, const double each[IMPLEMENTATION_COUNT])
 {
-    printf("| %-19s | %-6s | %5zu | %8.2f |", cell->oscillator->name, cell->pitch->name, cell->block, each[0]);
+    printf("| %-23s | %-6s | %5zu | %8.2f |", cell->oscillator->name, cell->pitch->name, cell->block, each[0]);
     for (size_t k = 1; k < IMPLEMENTATION_COUNT; k++)
         printf(" %8.2f | %5.2f |", each[k], each[k] / each[0]);
     printf("\n");

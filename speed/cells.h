@@ -12,16 +12,29 @@
 #define TABLE 1024 /* settings: each block takes the next ones */
 
 /* The numbers of the kinds are those of a job record. */
-enum kind { VARIABLE_SHAPE = 1, VARIABLE_SAW, SUPER_SQUARE, NES_TRIANGLE, STRING_SYNTH };
+enum kind { VARIABLE_SHAPE = 1, VARIABLE_SAW, SUPER_SQUARE, NES_TRIANGLE, STRING_SYNTH, CLASSIC };
 
+/* Its flags are a job record's: 1 for the variable shape with sync, and the classic's shape. */
 struct oscillator {
     const char *name;
     enum kind kind;
-    bool sync;
+    uint8_t flags;
 };
 static const struct oscillator oscillators[] = {
-    {"super_square", SUPER_SQUARE, false}, {"variable_shape", VARIABLE_SHAPE, false}, {"variable_shape_sync", VARIABLE_SHAPE, true},
-    {"variable_saw", VARIABLE_SAW, false}, {"nes_triangle", NES_TRIANGLE, false},     {"string_synth", STRING_SYNTH, false},
+    {"super_square", SUPER_SQUARE, 0},
+    {"variable_shape", VARIABLE_SHAPE, 0},
+    {"variable_shape_sync", VARIABLE_SHAPE, 1},
+    {"variable_saw", VARIABLE_SAW, 0},
+    {"nes_triangle", NES_TRIANGLE, 0},
+    {"string_synth", STRING_SYNTH, 0},
+    {"classic_impulse_train", CLASSIC, NAVULOQU_IMPULSE_TRAIN},
+    {"classic_saw", CLASSIC, NAVULOQU_SAW},
+    {"classic_triangle", CLASSIC, NAVULOQU_TRIANGLE},
+    {"classic_slope", CLASSIC, NAVULOQU_SLOPE},
+    {"classic_square", CLASSIC, NAVULOQU_SQUARE},
+    {"classic_square_bright", CLASSIC, NAVULOQU_SQUARE_BRIGHT},
+    {"classic_square_dark", CLASSIC, NAVULOQU_SQUARE_DARK},
+    {"classic_square_triangle", CLASSIC, NAVULOQU_SQUARE_TRIANGLE},
 };
 
 /* Frequencies lie within half an octave of these on either side. */
@@ -60,6 +73,7 @@ struct settings {
     float frequency, master_frequency, pw, waveshape, phase_modulation, gain, registration[7];
 };
 #define NUM_BITS 4
+#define SAMPLE_RATE 48000.0f
 
 /* From 0 to below 1, the same numbers in every run. */
 static inline float random_part(uint64_t *seed)
@@ -99,6 +113,10 @@ static inline struct state started(const struct implementation *by, const struct
     case SUPER_SQUARE: by->super_square.init(state.words); break;
     case NES_TRIANGLE: by->nes_triangle.init(state.words); break;
     case STRING_SYNTH: by->string_synth.init(state.words); break;
+    case CLASSIC:
+        if (by->classic.init(state.words, SAMPLE_RATE) != NAVULOQU_DONE)
+            memset(&state, 0xff, sizeof state); /* no state: the first block is refused */
+        break;
     }
     return state;
 }
@@ -109,11 +127,12 @@ static inline uint32_t render(const struct implementation *by, const struct osci
     uint32_t result[NAVULOQU_RESULT_WORDS];
     switch (o->kind) {
     case VARIABLE_SHAPE:
-        return by->variable_shape.render(state, s->master_frequency, s->frequency, s->pw, s->waveshape, s->phase_modulation, o->sync, false, out, count, result);
+        return by->variable_shape.render(state, s->master_frequency, s->frequency, s->pw, s->waveshape, s->phase_modulation, o->flags == 1, false, out, count, result);
     case VARIABLE_SAW: return by->variable_saw.render(state, s->frequency, s->pw, s->waveshape, out, count, result);
     case SUPER_SQUARE: return by->super_square.render(state, s->frequency, s->waveshape, out, count, result);
     case NES_TRIANGLE: return by->nes_triangle.render(state, s->frequency, NUM_BITS, out, count, result);
     case STRING_SYNTH: return by->string_synth.render(state, s->frequency, s->registration, 7, s->gain, out, count, result);
+    case CLASSIC: return by->classic.render(state, s->frequency, s->pw, o->flags, out, count, result);
     }
     return NAVULOQU_BAD_PARAM; /* there is no such kind */
 }

@@ -10,7 +10,7 @@
 #define IMPLEMENTATIONS(X) X(rust) X(again) X(navuloqu)
 #endif
 
-#define EACH_OSCILLATOR(X, p) X(p, super_square) X(p, variable_shape) X(p, variable_saw) X(p, nes_triangle) X(p, string_synth)
+#define EACH_OSCILLATOR(X, p) X(p, super_square) X(p, variable_shape) X(p, variable_saw) X(p, nes_triangle) X(p, string_synth) X(p, classic)
 
 #define DECLARED(p, o)                                         \
     extern __typeof__(navuloqu_##o##_init) p##_##o##_init;     \

@@ -16,7 +16,7 @@ struct record {
 
 static struct record made(const struct oscillator *o, const struct settings *s)
 {
-    struct record r = {.kind = (uint8_t)o->kind, .flags = o->sync, .samples = UNIT, .first = s->frequency};
+    struct record r = {.kind = (uint8_t)o->kind, .flags = o->flags, .samples = UNIT, .first = s->frequency};
     switch (o->kind) {
     case VARIABLE_SHAPE:
         r.second = s->master_frequency;
@@ -29,6 +29,7 @@ static struct record made(const struct oscillator *o, const struct settings *s)
         r.fourth = s->waveshape;
         break;
     case SUPER_SQUARE: r.third = s->waveshape; break;
+    case CLASSIC: r.third = s->pw; break;
     case NES_TRIANGLE: r.steps = 1u << NUM_BITS; break;
     case STRING_SYNTH:
         r.second = s->gain;

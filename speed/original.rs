@@ -1,7 +1,7 @@
 // The ported Rust, unchanged, as modules of the crate that includes this file. `target/speed/original` is a link that speed/run
 // makes, to the folder that holds `oscillator` and `utils`.
 
-/// `oscillator.rs`, of which only the limits of frequencies are used here, reads this constant of the crate's root.
+/// `oscillator.rs` reads this constant of the crate's root.
 pub const REF_SAMPLE_RATE: f32 = 48000.0;
 
 #[path = "../target/speed/original/oscillator"]
@@ -22,7 +22,22 @@ pub mod utils {
 }
 
 use oscillator::nes_triangle_oscillator::NesTriangleOscillator;
+use oscillator::oscillator::{Oscillator, OscillatorShape};
 use oscillator::string_synth_oscillator::StringSynthOscillator;
 use oscillator::super_square_oscillator::SuperSquareOscillator;
 use oscillator::variable_saw_oscillator::VariableSawOscillator;
 use oscillator::variable_shape_oscillator::VariableShapeOscillator;
+
+/// The classic's shape of a number.
+fn shape_of(number: u32) -> OscillatorShape {
+    match number {
+        0 => OscillatorShape::ImpulseTrain,
+        1 => OscillatorShape::Saw,
+        2 => OscillatorShape::Triangle,
+        3 => OscillatorShape::Slope,
+        4 => OscillatorShape::Square,
+        5 => OscillatorShape::SquareBright,
+        6 => OscillatorShape::SquareDark,
+        _ => OscillatorShape::SquareTriangle,
+    }
+}

@@ -27,6 +27,29 @@ init!(super_square_init, SuperSquareOscillator);
 init!(variable_saw_init, VariableSawOscillator);
 init!(variable_shape_init, VariableShapeOscillator);
 
+#[export_name = concat!(env!("PREFIX"), "_classic_init")]
+pub unsafe extern "C" fn classic_init(state: *mut Oscillator, sample_rate: f32) -> u32 {
+    let mut oscillator = Oscillator::new();
+    oscillator.init(sample_rate);
+    state.write(oscillator);
+    DONE
+}
+
+#[export_name = concat!(env!("PREFIX"), "_classic_render")]
+pub unsafe extern "C" fn classic_render(
+    state: *mut Oscillator,
+    frequency: f32,
+    pw: f32,
+    shape: u32,
+    out: *mut f32,
+    count: usize,
+    _result: *mut u32,
+) -> u32 {
+    let out = from_raw_parts_mut(out, count);
+    (*state).render(frequency, pw, None, out, shape_of(shape), false);
+    DONE
+}
+
 #[export_name = concat!(env!("PREFIX"), "_nes_triangle_render")]
 pub unsafe extern "C" fn nes_triangle_render(
     state: *mut NesTriangleOscillator,

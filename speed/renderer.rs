@@ -40,6 +40,7 @@ struct Bank {
     square: SuperSquareOscillator,
     nes: NesTriangleOscillator,
     string: StringSynthOscillator,
+    classic: Oscillator,
 }
 
 impl Bank {
@@ -50,6 +51,7 @@ impl Bank {
         bank.square.init();
         bank.nes.init();
         bank.string.init();
+        bank.classic.init(REF_SAMPLE_RATE);
         bank
     }
 
@@ -59,7 +61,8 @@ impl Bank {
             2 => self.render_saw(record, out),
             3 => self.render_square(record, out),
             4 => self.render_nes(record, out),
-            _ => self.render_string(record, out),
+            5 => self.render_string(record, out),
+            _ => self.render_classic(record, out),
         }
     }
 
@@ -100,6 +103,13 @@ impl Bank {
         let registration: [f32; 7] = core::array::from_fn(|k| r.float(28 + 4 * k));
         self.string
             .render(r.float(8), &registration, r.float(12), out)
+    }
+
+    #[inline(never)]
+    fn render_classic(&mut self, r: Record, out: &mut [f32]) {
+        let shape = shape_of(r.0[1].into());
+        self.classic
+            .render(r.float(8), r.float(16), None, out, shape, false)
     }
 }
 
