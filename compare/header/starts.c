@@ -10,26 +10,9 @@ static uint32_t *const state = state_room + FENCE;
 
 #define RATE 48000 /* of the classic's starting line */
 
-#ifdef navuloqu_classic_new
-/* Whether each word is that of the source's `Default`: 0.0 or false. */
-static bool is_new(uint32_t *words)
-{
-    uint32_t set = 0;
-    navuloqu_classic_new(words);
-    for (size_t i = 0; i < NAVULOQU_CLASSIC_WORDS; i++)
-        set |= words[i];
-    memset(words, 0xff, sizeof *words * NAVULOQU_CLASSIC_WORDS);
-    return set == 0;
-}
-#else
-#define is_new(words) true
-#endif
-
-/* What is not as it should be leaves all bits set, and so it is seen. */
+/* One that is refused leaves all bits set, and so it is seen. */
 static void init_classic(uint32_t *words)
 {
-    if (!is_new(words))
-        return;
     if (navuloqu_classic_init(words, RATE) != NAVULOQU_DONE)
         memset(words, 0xff, sizeof *words * NAVULOQU_CLASSIC_WORDS);
 }
