@@ -7,7 +7,7 @@ use Prim.Native.Nat.{ℕ, zero-le, _≤_, _<_}
 use native.Mathlib.Nat.{lt-of-lt-of-le}
 use native.Mathlib.Omega.{arith}
 use lib.Dec.{T}
-use lib.Ieee.{Float, nan, inf, fin, binary32, lt, le, fits, ofBits}
+use lib.Ieee.{Float, nan, inf, fin, binary32, lt, le, fits}
 use lib.Ieee.Fits.{cond-fits}
 use Rattle.floats.specs.F32.{one32, zero32, minFrequency, maxFrequency}
 use Rattle.floats.specs.Helpers.{absOf, atLeast}
@@ -15,7 +15,7 @@ use Rattle.floats.proofs.Bools.{and-both}
 use Rattle.floats.proofs.At.{At, Reads, sizeOf}
 use Rattle.floats.proofs.Order.{le-trans, numbers}
 use Rattle.floats.proofs.Ranges.{at-le, passes-le, passed-le}
-use Rattle.floats.proofs.Ticks.{tick, tick-pos, cycle, zero-at, one-at, maxFrequency-at}
+use Rattle.floats.proofs.Ticks.{tick, tick-pos, zero-at, one-at, maxFrequency-at}
 use Rattle.ranges.specs.Ranges.{within, parameterFrequencyIn, unitIn}
 use Rattle.ranges.proofs.AllOf.{each-of}
 use Rattle.ranges.proofs.TargetRanges.{leastTarget, leastTarget-at, least-min, least-max, min-at, clamp-in, width-clamp-in, width-clamp-fits}
@@ -29,12 +29,8 @@ use Rattle.classic.specs.Block.{parametersIn, rooms}
 use Rattle.classic.specs.Private.{Valid, courses}
 
 -- ---- the frequency's target
-max-itself : le maxFrequency maxFrequency ≡ true
-unfolding le ofBits
-max-itself = refl
-
-pub frequency-in : (f : Float) → parameterFrequencyIn f ≡ true → within leastTarget maxFrequency (frequencyTarget f) ≡ true
-frequency-in f h = clamp-in f minFrequency maxFrequency leastTarget maxFrequency (numbers f one32 (and-both (le minFrequency f) (le f one32) h .1) .0) least-min least-max max-itself
+frequency-in : (f : Float) → parameterFrequencyIn f ≡ true → within leastTarget maxFrequency (frequencyTarget f) ≡ true
+frequency-in f h = clamp-in f minFrequency maxFrequency leastTarget maxFrequency (numbers f one32 (and-both (le minFrequency f) (le f one32) h .1) .0) least-min least-max (passes-le maxFrequency-at maxFrequency-at (omega arith))
 
 frequency-fits : (f : Float) → T (fits binary32 f) → T (fits binary32 (frequencyTarget f))
 frequency-fits f t =
@@ -63,7 +59,7 @@ module _ (f : Float) (t : T (fits binary32 f)) (h : within leastTarget maxFreque
   itself : absOf f ≡ f
   itself = abs-itself f (F .reads) (lt-of-lt-of-le tick-pos least)
 
-  pub width-least : (pw : Float) → unitIn pw ≡ true → le leastTarget (widthTarget f pw) ≡ true
+  width-least : (pw : Float) → unitIn pw ≡ true → le leastTarget (widthTarget f pw) ≡ true
   width-least pw u =
       let l = least in
       rw itself (and-both _ _ (width-clamp-in pw F leastTarget-at one-at (passed-le F maxFrequency-at (bounds .1)) (omega arith) (omega arith) (omega arith) u) .0)

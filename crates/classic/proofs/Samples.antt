@@ -1,6 +1,6 @@
 -- A sample in which nothing happens: its edges leave it as it starts, and it counts nothing. Assumes nothing.
-use mathlib.Core.Path.{_≡_, refl}
-use mathlib.Core.Bool.{Bool, true, false, not, _&&_, xor}
+use mathlib.Core.Path.{_≡_}
+use mathlib.Core.Bool.{true, false}
 use borrow.Author.Tests.{not-true}
 use lib.Ieee.{Float, le}
 use Rattle.floats.specs.F32.{_⊕_, one32}

@@ -1,7 +1,6 @@
 -- Samples and starts of the classic oscillator. What is expected was given by the source's oscillator.rs, run on the same inputs in a block of one sample, its wraps and the changes of
 -- its `high` counted; the last row is 02's. Assumes nothing.
 use mathlib.Core.List.{List, [], _∷_}
-use Prim.Native.Nat.{ℕ}
 use Rattle.classic.specs.declared.OscillatorShape.the-variants.{ImpulseTrain, Saw, Triangle, Slope, Square, SquareBright, SquareDark, SquareTriangle}
 use Rattle.figures.specs.Question.{classicSample, classicStart}
 use Rattle.figures.specs.Rows.{Row, row}

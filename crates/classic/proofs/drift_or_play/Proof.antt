@@ -1,5 +1,5 @@
 -- `classic::drift_or_play` meets its contract: what `find_drift` tells decides, as in the definition. A width that is not stepped has a place that is not used. Assumes nothing.
-use mathlib.Core.Path.{_≡_, refl, _∙_}
+use mathlib.Core.Path.{_≡_, _∙_}
 use mathlib.Core.Bool.{Bool, true, false, cond}
 use mathlib.Core.List.{[], _∷_, _++_}
 use Prim.Native.Nat.{ℕ}

@@ -1,5 +1,5 @@
 -- `classic::edges_of::square_edges` meets its contract: the width, and then the end of the cycle. Assumes nothing.
-use mathlib.Core.Path.{_≡_, refl}
+use mathlib.Core.Path.{refl}
 use Rattle.classic.specs.Edges.{squareEdges}
 use borrow.Author.Needs.{needs}
 use Rattle.classic.proofs.edges_of.square_edges.Statement.{statement}

@@ -1,5 +1,5 @@
 -- `classic::edges_of::triangle_edges` meets its contract: the width, and then the end of the cycle. Assumes nothing.
-use mathlib.Core.Path.{_≡_, refl}
+use mathlib.Core.Path.{refl}
 use Rattle.classic.specs.Edges.{triangleEdges}
 use borrow.Author.Needs.{needs}
 use Rattle.classic.proofs.edges_of.triangle_edges.Statement.{statement}

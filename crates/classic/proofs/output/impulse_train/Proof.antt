@@ -1,7 +1,6 @@
 -- `classic::output::impulse_train` meets its contract. Assumes nothing.
 use mathlib.Core.Path.{refl}
 use Rattle.classic.specs.Output.{impulseTrain}
-use borrow.Author.Needs.{needs}
 use Rattle.classic.proofs.output.impulse_train.Statement.{statement}
 use Rattle.classic.proofs.output.impulse_train.Tie as tie
 
