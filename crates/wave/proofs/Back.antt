@@ -7,7 +7,7 @@ use native.Mathlib.Omega.{arith}
 use borrow.Author.Tests.{lt-ltb, le-ltb, leb-true}
 use lib.Dec.{leb}
 use lib.IntN.{ℤ, pos, negsuc, natAbs}
-use lib.ListN.{length, take, drop, length-append, take-append-drop}
+use lib.ListN.{length, take, drop, take-append-drop}
 use lib.Seq.{take-at, drop-at}
 use lib.Ieee.{Float}
 use Rattle.floats.proofs.Bools.{and-both}
@@ -16,7 +16,7 @@ use Rattle.wave.specs.Form.{lowFirst, headerOf, samplesOf, stemOf}
 use Rattle.wave.specs.Write.{rateIn, allNumbers, isFit, Handed, writeOf}
 use Rattle.wave.specs.Read.{WaveAt, ofLowFirst, rateOf, signed, numbersOf, numbersIn}
 use Rattle.wave.proofs.Values.{pcm-most}
-use Rattle.wave.proofs.Putting.{samples-long, header-long}
+use Rattle.wave.proofs.Putting.{header-long, stem-long}
 use Rattle.wave.proofs.Ways.{fit-small}
 
 -- ---- bytes and numbers
@@ -60,15 +60,12 @@ rate-read rate file w =
 
 -- ---- a stem
 module _ (rate : ℕ) (xs : List Float) where
-  stem-long : length (stemOf rate xs) ≡ 44 + 2 * length xs
-  stem-long = length-append (headerOf rate (2 * length xs)) (samplesOf xs) ∙ rw (header-long rate (2 * length xs), samples-long xs)
-
   pub stem-wave : isFit rate xs ≡ true → WaveAt rate (stemOf rate xs)
   stem-wave h = record {
     rated = and-both (rateIn rate) (leb (length xs) 1048576) (and-both _ (allNumbers xs) h .0) .0;
     count = length xs;
     few = fit-small rate xs h .1;
-    long = stem-long;
+    long = stem-long rate xs;
     header = take-at (headerOf rate (2 * length xs)) (samplesOf xs) 44 (header-long rate (2 * length xs));
   }
 
@@ -90,7 +87,7 @@ module _ (rate : ℕ) (xs : List Float) where
         go : (fit room : Bool) → given fit room .number ≡ 0 → (fit ≡ true) × (take (44 + 2 * length xs) (given fit room .bytes) ≡ stemOf rate xs)
         go false room h = absurd (omega (arith, h))
         go true false h = absurd (omega (arith, h))
-        go true true h = (refl, take-at (stemOf rate xs) (drop (44 + 2 * length xs) d) (44 + 2 * length xs) stem-long)
+        go true true h = (refl, take-at (stemOf rate xs) (drop (44 + 2 * length xs) d) (44 + 2 * length xs) (stem-long rate xs))
 
     pub write-read-back : writeOf rate xs d .number ≡ 0 → WaveAt rate (take (44 + 2 * length xs) (writeOf rate xs d .bytes)) × (numbersIn (take (44 + 2 * length xs) (writeOf rate xs d .bytes)) ≡ map pcmOf xs)
     unfolding front

@@ -90,7 +90,11 @@ pub header-long : (rate size : ℕ) → length (headerOf rate size) ≡ 44
 unfolding headerOf lowFirst
 header-long rate size = refl
 
--- so a stem
+-- "44 header bytes, then samples", of two bytes each
+pub stem-long : (rate : ℕ) (xs : List Float) → length (stemOf rate xs) ≡ 44 + 2 * length xs
+stem-long rate xs = length-append (headerOf rate (2 * length xs)) (samplesOf xs) ∙ rw (header-long rate (2 * length xs), samples-long xs)
+
+-- a stem in a buffer
 pub whole-stem : (rate : ℕ) (xs : List Float) (d h d' e : List ℕ) → h ≡ headerOf rate (2 * length xs) → 44 + 2 * length xs ≤ length d → d' ≡ take (length h) h ++ drop (length h) d
     → e ≡ samplesOf xs ++ drop (2 * length xs) (take (length d' - 44) (drop 44 d'))
     → take 44 d' ++ (e ++ drop (length d' - 44) (drop 44 d')) ≡ stemOf rate xs ++ drop (44 + 2 * length xs) d
