@@ -1,4 +1,4 @@
--- One byte of a text, one sample of a checksum, and the words past the end of a record. Assumes nothing.
+-- One byte of a text, one word of a checksum, and the words past the end of a record. Assumes nothing.
 use mathlib.Core.Path.{_≡_, sym}
 use mathlib.Core.List.{List}
 use Prim.Native.Nat.{ℕ, _+_, _≤_, _<_}
@@ -9,7 +9,7 @@ use lib.Seq.{drop-cons}
 use lib.Ieee.{Float, binary32, toBits}
 use Rattle.testing.specs.Words.{wordAt}
 use Rattle.testing.specs.Text.{Line, byteOf, putOf, wordText, afterOf, wordsOf}
-use Rattle.testing.specs.Samples.{nextSum, sumFrom}
+use Rattle.testing.specs.Sums.{nextSum, sumFrom, bitsOf}
 
 module _ (bytes : List ℕ) (at : ℕ) (h : length bytes ≤ at) where
   pub byte-past : 0 ≡ getD bytes at 0
@@ -49,11 +49,20 @@ module _ (words : List ℕ) (i last : ℕ) where
     unfolding wordsOf
     words-end h = rw (drop-of-length-le words {i = i} h)
 
-module _ (xs : List Float) (i sum : ℕ) where
-  pub sum-more : (z : Float) → i < length xs → sumFrom sum (drop i xs) ≡ sumFrom (nextSum sum (toBits binary32 (getD xs i z))) (drop (i + 1) xs)
+module _ (words : List ℕ) (i sum : ℕ) where
+  pub sum-more : i < length words → sumFrom sum (drop i words) ≡ sumFrom (nextSum sum (getD words i 0)) (drop (i + 1) words)
   unfolding sumFrom
-  sum-more z h = rw (drop-cons xs i z h, add-one)
+  sum-more h = rw (drop-cons words i 0 h, add-one)
 
-  pub sum-end : length xs ≤ i → sumFrom sum (drop i xs) ≡ sum
+  pub sum-end : length words ≤ i → sumFrom sum (drop i words) ≡ sum
   unfolding sumFrom
-  sum-end h = rw (drop-of-length-le xs {i = i} h)
+  sum-end h = rw (drop-of-length-le words {i = i} h)
+
+module _ (xs : List Float) (i sum : ℕ) where
+  pub checksum-more : (z : Float) → i < length xs → sumFrom sum (bitsOf (drop i xs)) ≡ sumFrom (nextSum sum (toBits binary32 (getD xs i z))) (bitsOf (drop (i + 1) xs))
+  unfolding sumFrom
+  checksum-more z h = rw (drop-cons xs i z h, add-one)
+
+  pub checksum-end : length xs ≤ i → sumFrom sum (bitsOf (drop i xs)) ≡ sum
+  unfolding sumFrom
+  checksum-end h = rw (drop-of-length-le xs {i = i} h)

@@ -11,7 +11,8 @@ use Rattle.floats.proofs.Contracts.{coincide}
 use Rattle.io.specs.Digits.{digits, Fewest}
 use Rattle.testing.specs.Text.{Line, byteOf, putOf, Numbered}
 use Rattle.testing.proofs.record.word_at
-use Rattle.testing.proofs.samples.checksum
+use Rattle.testing.proofs.sums.checksum
+use Rattle.testing.proofs.sums.sum
 use Rattle.testing.proofs.text.front
 use Rattle.testing.proofs.text.put
 use Rattle.testing.proofs.text.put_byte
@@ -24,6 +25,9 @@ word-at-tight κs a r q v w h k = (coincide h k, refl)
 
 pub checksum-tight : Determines checksum.ended checksum.Reads.Learnt
 checksum-tight κs a r q v w h k = (coincide h k, refl)
+
+pub sum-tight : Determines sum.ended sum.Reads.Learnt
+sum-tight κs a r q v w h k = (coincide h k, refl)
 
 -- what is returned is a reference: the bytes that it shows are determined
 pub front-tight : (κs : Lfts 1) (out r q : RefT (List ℕ)) (end : ℕ) → front.Reads.Learnt κs (out, (end, tt)) r (out, (end, tt)) → front.Reads.Learnt κs (out, (end, tt)) q (out, (end, tt)) → now r ≡ now q

@@ -1,4 +1,4 @@
 -- What the test programs share: words, lines and a checksum.
 pub mod Words
 pub mod Text
-pub mod Samples
+pub mod Sums

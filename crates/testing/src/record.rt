@@ -26,7 +26,7 @@ fn byte_at(bytes: &[u8], at: usize) -> u8
 }
 
 // A byte as a wider number: a cast in a function of its own asks nothing of its callers.
-fn wide(byte: u8) -> u32
+pub(crate) fn wide(byte: u8) -> u32
     ensures { λ r. ⌜ (r ≡ byte) × (r < 256) ⌝ }
 {
     byte as u32

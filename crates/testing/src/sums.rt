@@ -1,7 +1,8 @@
-// The checksum of the samples that a call left.
+// The checksum of what a call left: of samples by their bits, or of bytes.
 ghost use mathlib.Core.Path.{_≡_};
 ghost use Prim.Native.Nat.{_<_};
-ghost use Rattle.testing.specs.Samples.{nextSum, checksumOf};
+ghost use Rattle.testing.specs.Sums.{nextSum, sumOf, checksumOf};
+use crate::record;
 
 // Over the bits of every sample in turn, so that two in each other's place show. A NaN counts as 7fc00000.
 pub fn checksum(samples: &[f32]) -> u32
@@ -16,11 +17,24 @@ pub fn checksum(samples: &[f32]) -> u32
     sum
 }
 
-// One word more.
-fn next_sum(sum: u32, bits: u32) -> u32
-    ensures { λ r. ⌜ r ≡ nextSum sum bits ⌝ }
+// Over every byte in turn.
+pub fn sum(bytes: &[u8]) -> u32
+    ensures { λ r. ⌜ r ≡ sumOf (now (bytes .entry)) ⌝ }
 {
-    ((wide(sum) * 1_000_003 + wide(bits)) % 4_294_967_291) as u32
+    let mut sum = 0;
+    let mut i = 0;
+    while i < bytes.len() {
+        sum = next_sum(sum, record::wide(bytes[i]));
+        i += 1;
+    }
+    sum
+}
+
+// One word more.
+fn next_sum(sum: u32, word: u32) -> u32
+    ensures { λ r. ⌜ r ≡ nextSum sum word ⌝ }
+{
+    ((wide(sum) * 1_000_003 + wide(word)) % 4_294_967_291) as u32
 }
 
 // A word as a wider number, in which the product fits.
