@@ -1,10 +1,11 @@
--- The contract of each exported function, as the kit reads it, determines all: answer, words, result and samples. Assumes nothing.
+-- The contract of each exported function, as the kit reads it, determines all: answer, words, result and samples, or bytes. Assumes nothing.
 use mathlib.Core.Path.{refl, ap}
 use Rattle.floats.specs.Contracts.{Determines}
 use Rattle.floats.proofs.Contracts.{coincide}
 use Rattle.words.proofs.Faces.{same-face}
 use Rattle.variable_shape_face.specs.Words.{SetFace}
 use Rattle.classic_face.specs.Words.{StartFace}
+use Rattle.wave.specs.Write.{Handed}
 use Rattle.navuloqu.proofs.variable_shape.navuloqu_2_variable_shape_init as variable_shape_init
 use Rattle.navuloqu.proofs.variable_shape.navuloqu_2_variable_shape_render as variable_shape_render
 use Rattle.navuloqu.proofs.variable_shape.navuloqu_2_variable_shape_set_master_phase as variable_shape_set_master_phase
@@ -18,6 +19,7 @@ use Rattle.navuloqu.proofs.string_synth.navuloqu_2_string_synth_init as
 use Rattle.navuloqu.proofs.string_synth.navuloqu_2_string_synth_render as string_synth_render
 use Rattle.navuloqu.proofs.classic.navuloqu_2_classic_init as classic_init
 use Rattle.navuloqu.proofs.classic.navuloqu_2_classic_render as classic_render
+use Rattle.navuloqu.proofs.stems.navuloqu_2_wave_write as wave_write
 
 pub variable-shape-init-tight : Determines variable_shape_init.ended variable_shape_init.Reads.Learnt
 variable-shape-init-tight κs a r q v w h k = (refl, rw (coincide h k))
@@ -57,3 +59,6 @@ classic-init-tight κs a r q v w h k = let e = coincide h k in (ap (λ (f : Star
 
 pub classic-render-tight : Determines classic_render.ended classic_render.Reads.Learnt
 classic-render-tight κs a r q v w h k = let o = same-face (coincide h k) in (o .0, rw (o .1, o .2, o .3))
+
+pub wave-write-tight : Determines wave_write.ended wave_write.Reads.Learnt
+wave-write-tight κs a r q v w h k = let e = coincide h k in (ap (λ (f : Handed). f .number) e, ap (λ (f : Handed). (tt, (tt, (f .bytes, tt)))) e)
