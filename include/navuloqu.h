@@ -6,7 +6,7 @@
  * Each oscillator has `init` and `render`, and the variable shape can have its master's phase set. They keep nothing between calls: the
  * state is the caller's, an array of 32-bit words in the order of the fields given below, floats as their bit patterns, bools as 0 or 1,
  * whole numbers in two's complement. `init` writes the words of the oscillator's initial state, which lies in its range; the classic's takes
- * a sample rate and answers too.
+ * a sample rate and answers too. navuloqu_wave_write, last below, makes a WAV file's bytes of samples.
  *
  * A block is a glide. Each parameter moves over the block in equal steps, up to rounding, from the value that the state holds, which is where
  * the last block ended, to the one that the call asks for (phase_modulation only with `phase_output`; the classic's pw not for
@@ -83,6 +83,7 @@ extern "C" {
 #define navuloqu_string_synth_render navuloqu_2_string_synth_render
 #define navuloqu_classic_init navuloqu_2_classic_init
 #define navuloqu_classic_render navuloqu_2_classic_render
+#define navuloqu_wave_write navuloqu_2_wave_write
 
 /* Whoever does not look at what is returned is warned by the compiler. */
 #if (defined(__cplusplus) && __cplusplus >= 201703L) || (defined(__STDC_VERSION__) && __STDC_VERSION__ > 201710L)
@@ -94,13 +95,14 @@ extern "C" {
 #endif
 
 /* The answers. */
-#define NAVULOQU_DONE 0             /* rendered; also an empty block that passes, which changes nothing */
+#define NAVULOQU_DONE 0             /* rendered or written; also an empty block that passes, which changes nothing */
 #define NAVULOQU_LONG_BLOCK 1       /* more than NAVULOQU_LONGEST_BLOCK samples */
 #define NAVULOQU_BAD_REGISTRATION 2 /* string synth only: the registration is not NAVULOQU_REGISTRATION_ENTRIES long */
 #define NAVULOQU_BAD_STATE 3        /* the state lies outside its range, or a bool's word is neither 0 nor 1 */
-#define NAVULOQU_BAD_PARAM 4        /* a parameter lies outside its range */
+#define NAVULOQU_BAD_PARAM 4        /* a parameter lies outside its range; of a stem the rate, the count or a sample that is a NaN */
 #define NAVULOQU_TOO_HIGH 5         /* string synth only: the frequency is above 0.5 */
 #define NAVULOQU_DRIFT 6            /* an interpolated step leaves its room */
+#define NAVULOQU_NO_ROOM 9          /* navuloqu_wave_write only: fewer bytes are lent than the stem has */
 
 /* The answer's name, for a message. */
 static inline const char *navuloqu_answer_name(uint32_t answer)
@@ -113,6 +115,7 @@ static inline const char *navuloqu_answer_name(uint32_t answer)
     case NAVULOQU_BAD_PARAM: return "BadParam";
     case NAVULOQU_TOO_HIGH: return "TooHigh";
     case NAVULOQU_DRIFT: return "Drift";
+    case NAVULOQU_NO_ROOM: return "NoRoom";
     default: return "no answer of this version";
     }
 }
@@ -130,8 +133,8 @@ static inline const char *navuloqu_answer_name(uint32_t answer)
 #define NAVULOQU_RESULT_WORDS 6
 
 /* The floating-point environment. Between the two calls floats are computed as the oscillators need it, in this thread; the second puts back
- * what was there before, exception flags too. `render`, `set_master_phase` and the classic's `init` need it, the other `init` do not. Once
- * around all calls of a block is enough.
+ * what was there before, exception flags too. `render`, `set_master_phase` and the classic's `init` need it; the other `init` do not, and
+ * navuloqu_wave_write only where exceptions are not masked. Once around all calls of a block is enough.
  *
  *     const uint32_t control = navuloqu_guard_begin();
  *     const uint32_t answer = navuloqu_super_square_render(state, frequency, shape, out, count, result);
@@ -268,6 +271,29 @@ NAVULOQU_MUST_USE uint32_t navuloqu_classic_render(
     float *out,                             /* `count` samples, overwritten */
     size_t count,                           /* at most NAVULOQU_LONGEST_BLOCK */
     uint32_t result[NAVULOQU_RESULT_WORDS]);
+
+/* Stems: samples, of whatever oscillators, become the bytes of a WAV file, mono, 16-bit PCM. */
+#define NAVULOQU_WAVE_HEADER 44            /* bytes before the first sample's */
+#define NAVULOQU_WAVE_MOST_SAMPLES 1048576 /* samples of a stem at most */
+#define NAVULOQU_WAVE_BYTES(count) (NAVULOQU_WAVE_HEADER + 2 * (size_t)(count)) /* the bytes of a stem of so many samples */
+
+/* Writes a stem to the front of `bytes`: the header, then for each sample a signed 16-bit number, little-endian. The sample is clipped to -1
+ * and 1, and its exact value times 32,767 goes to the nearest whole number; 0.5 and -0.5, which lie in the middle of two, go to the even one,
+ * 16,384 and -16,384. So -1 and 1 are -32,767 and 32,767, and an infinity is clipped as any other sample. Bytes past the stem stay.
+ *
+ * Returns NAVULOQU_DONE. Or NAVULOQU_BAD_PARAM where the rate lies outside its range, there are more than NAVULOQU_WAVE_MOST_SAMPLES samples,
+ * or one of them is a NaN; else NAVULOQU_NO_ROOM exactly where `room` is less than NAVULOQU_WAVE_BYTES(count). Then no byte has changed:
+ * whoever writes them to a file writes what they held before.
+ *
+ * Samples are read bit by bit and compared with themselves, and nothing is computed with floats: neither rounding nor flush to zero nor
+ * denormals as zero matters. Only exceptions have to be masked, as they are when a program starts: a comparison of a subnormal sample or of a
+ * signalling NaN raises one. */
+NAVULOQU_MUST_USE uint32_t navuloqu_wave_write(
+    uint32_t rate,        /* in samples per second: 1 to 384000 */
+    const float *samples, /* `count` samples, of any bits */
+    size_t count,         /* at most NAVULOQU_WAVE_MOST_SAMPLES; none at all make a stem too, of the header alone */
+    uint8_t *bytes,       /* `room` bytes */
+    size_t room);         /* at least NAVULOQU_WAVE_BYTES(count) */
 
 #ifdef __cplusplus
 }

@@ -21,6 +21,7 @@ struct control {
 
 #define CALL_BYTES 128
 #define START_BYTES 44
+#define WAVE_BYTES 64
 #define OSCILLATORS 6
 #define LINE_ROOM 256 /* the longest line has 175 bytes */
 
@@ -32,6 +33,9 @@ const char *answer_start(const struct control *control, size_t oscillator, char 
 
 /* What crates/starts prints of the exported forms for a record: of `set_master_phase`, then of the classic's `init`. */
 const char *answer_given(const struct control *control, const unsigned char record[START_BYTES], char line[LINE_ROOM]);
+
+/* The line of a record of samples, as crates/waves prints it. */
+const char *answer_wave(const struct control *control, const unsigned char record[WAVE_BYTES], char line[LINE_ROOM]);
 
 #ifdef __cplusplus
 }

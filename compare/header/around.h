@@ -1,5 +1,5 @@
 /* What stands around each call: MXCSR is set before it and looked at after it, and beside what a call may write stand words that it may
- * not. */
+ * not, or bytes. */
 #ifndef AROUND_H
 #define AROUND_H
 
@@ -12,23 +12,36 @@
 /* An odd number of words, so that nothing that is handed over is aligned to more than a word: the header asks for no more. */
 #define FENCE 17
 #define FENCED(words) (FENCE + (words) + FENCE)
+#define FENCE_BYTES (4 * FENCE)
+#define FENCED_BYTES(bytes) (FENCE_BYTES + (bytes) + FENCE_BYTES)
 #define FENCE_BYTE 0xa5
+
+/* In memory of FENCED_BYTES(count) bytes. */
+static inline void put_fences_by_bytes(void *memory, size_t count)
+{
+    unsigned char *bytes = (unsigned char *)memory;
+    memset(bytes, FENCE_BYTE, FENCE_BYTES);
+    memset(bytes + FENCE_BYTES + count, FENCE_BYTE, FENCE_BYTES);
+}
+
+static inline bool fences_stand_by_bytes(const void *memory, size_t count)
+{
+    const unsigned char *before = (const unsigned char *)memory, *after = before + FENCE_BYTES + count;
+    for (size_t i = 0; i < FENCE_BYTES; i++)
+        if (before[i] != FENCE_BYTE || after[i] != FENCE_BYTE)
+            return false;
+    return true;
+}
 
 /* In memory of FENCED(words) words. */
 static inline void put_fences(void *memory, size_t words)
 {
-    unsigned char *bytes = (unsigned char *)memory;
-    memset(bytes, FENCE_BYTE, 4 * FENCE);
-    memset(bytes + 4 * (FENCE + words), FENCE_BYTE, 4 * FENCE);
+    put_fences_by_bytes(memory, 4 * words);
 }
 
 static inline bool fences_stand(const void *memory, size_t words)
 {
-    const unsigned char *before = (const unsigned char *)memory, *after = before + 4 * (FENCE + words);
-    for (size_t i = 0; i < 4 * FENCE; i++)
-        if (before[i] != FENCE_BYTE || after[i] != FENCE_BYTE)
-            return false;
-    return true;
+    return fences_stand_by_bytes(memory, 4 * words);
 }
 
 #define MXCSR_FLAGS 0x3fu /* the exceptions that came up */

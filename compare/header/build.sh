@@ -13,7 +13,7 @@ compile() {
     folder=$1 included=$2
     shift 2
     mkdir -p "$room/$folder" || exit 2
-    for file in program calls starts; do
+    for file in program calls starts waves; do
         "$@" -Wall -Wextra -Wpedantic -Wconversion -Werror -I"$included" -c -o "$room/$folder/$file.o" "$here/$file.c" 2>"$room/told" ||
             wrong "$folder: $file.c is not compiled:" "$room/told"
     done
@@ -24,7 +24,7 @@ link_program() {
     folder=$1
     shift
     made=$room/$folder
-    "$@" -o "$made/program" "$made/program.o" "$made/calls.o" "$made/starts.o" "$archive" 2>"$room/told" ||
+    "$@" -o "$made/program" "$made/program.o" "$made/calls.o" "$made/starts.o" "$made/waves.o" "$archive" 2>"$room/told" ||
         die "$folder: the program is not linked: $(tail -n 1 "$room/told")"
 }
 
@@ -34,7 +34,7 @@ agrees() {
     shift 3
     run "$folder" "$@" <"$input" >"$room/got" 2>"$room/told" || wrong "$folder, $*: the program ended with status $?:" "$room/told"
     cmp -s "$expected" "$room/got" && return
-    [ "$1" = starts ] || wrong "$folder, $*: $("$compare" first-difference calls "$input" "$expected" "$room/got")"
+    [ "$1" = starts ] || wrong "$folder, $*: $("$compare" first-difference "$1" "$input" "$expected" "$room/got")"
     diff "$expected" "$room/got" >"$room/told"
     wrong "$folder, $*: what is expected and what it printed:" "$room/told"
 }
@@ -42,9 +42,11 @@ agrees() {
 agrees_with_all() {
     agrees "$1" "$calls/stdin" "$calls/stdout" calls
     agrees "$1" "$starts/stdin" "$room/recorded.lines" starts
+    agrees "$1" "$waves/stdin" "$waves/stdout" waves
     agrees "$1" "$room/calls" "$room/calls.lines" calls
     agrees "$1" "$room/starts" "$room/starts.lines" starts
-    tell "$1: $recorded recorded and $count fresh calls agree, $phases and $count phases and rates, and the starts"
+    agrees "$1" "$room/waves" "$room/waves.lines" waves
+    tell "$1: $recorded recorded and $count fresh calls agree, $phases and $count phases and rates, $stems and $fresh_stems stems, and the starts"
 }
 
 # try NAME COMPILER LINKER FLAG..: a program is built and held to everything. The compiler's words say the language, and a linker would take

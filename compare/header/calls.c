@@ -129,13 +129,13 @@ static void fill(const unsigned char *record, size_t words, size_t count)
 /* Over the bits of every sample in turn; any NaN counts as the same. */
 static uint32_t checksum(size_t count)
 {
-    uint64_t sum = 0;
+    uint32_t sum = 0;
     for (size_t i = 0; i < count; i++) {
         uint32_t bits;
         memcpy(&bits, &out[i], sizeof bits);
-        sum = (sum * 1000003 + ((bits & 0x7fffffff) > 0x7f800000 ? 0x7fc00000 : bits)) % 4294967291;
+        sum = next_sum(sum, is_nan(bits) ? 0x7fc00000 : bits);
     }
-    return (uint32_t)sum;
+    return sum;
 }
 
 /* The answer is returned and written: where the two differ there is no such number. */

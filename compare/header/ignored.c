@@ -8,9 +8,9 @@
 #define CALLED(call) call
 #endif
 
-uint32_t all_answers(uint32_t *state, float *out, uint32_t *result);
+uint32_t all_answers(uint32_t *state, float *out, uint32_t *result, uint8_t *bytes);
 
-uint32_t all_answers(uint32_t *state, float *out, uint32_t *result)
+uint32_t all_answers(uint32_t *state, float *out, uint32_t *result, uint8_t *bytes)
 {
     uint32_t answers = 0;
     const float registration[NAVULOQU_REGISTRATION_ENTRIES] = {1, 0, 0, 0, 0, 0, 0};
@@ -22,6 +22,7 @@ uint32_t all_answers(uint32_t *state, float *out, uint32_t *result)
     CALLED(navuloqu_string_synth_render(state, 0.01f, registration, NAVULOQU_REGISTRATION_ENTRIES, 1, out, 1, result));
     CALLED(navuloqu_classic_init(state, 48000));
     CALLED(navuloqu_classic_render(state, 0.01f, 0.5f, 0, out, 1, result));
+    CALLED(navuloqu_wave_write(48000, out, 1, bytes, NAVULOQU_WAVE_BYTES(1)));
     CALLED(navuloqu_guard_begin());
     return answers;
 }

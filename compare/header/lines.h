@@ -27,6 +27,17 @@ static inline float float_at(const unsigned char *record, size_t at)
     return float_of(word_at(record, at));
 }
 
+static inline bool is_nan(uint32_t bits)
+{
+    return (bits & 0x7fffffff) > 0x7f800000;
+}
+
+/* One word more in a checksum. */
+static inline uint32_t next_sum(uint32_t sum, uint32_t word)
+{
+    return (uint32_t)(((uint64_t)sum * 1000003 + word) % 4294967291);
+}
+
 /* Each answers the place after what it has put. */
 static inline size_t put_text(char line[LINE_ROOM], size_t at, const char *text)
 {

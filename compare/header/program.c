@@ -1,7 +1,7 @@
-/* Reads records from standard input and prints what the functions of navuloqu.h make of them, as the Rattle programs calls and starts do.
- * So the header is held against the archive. compare/header/run compiles and runs it.
+/* Reads records from standard input and prints what the functions of navuloqu.h make of them, as the Rattle programs calls, starts and waves
+ * do. So the header is held against the archive. compare/header/run compiles and runs it.
  *
- *   program calls|starts|names [--control WORD [--unguarded]]
+ *   program calls|starts|waves|names [--control WORD [--unguarded]]
  *
  * `names` reads nothing and prints what the header calls each answer. WORD, in hexadecimal, is what MXCSR holds before each call; the
  * header's guard then stands around the call, if it is not left out. A record that is cut short is left out. The status is 1 where a call
@@ -64,11 +64,19 @@ static void say_starts(const struct control *control)
         say(answer_given(control, record, line), line, "record", number);
 }
 
-/* The first number past the answers too. */
+static void say_waves(const struct control *control)
+{
+    unsigned char record[WAVE_BYTES];
+    char line[LINE_ROOM];
+    for (size_t number = 0; read_record(record, sizeof record); number++)
+        say(answer_wave(control, record, line), line, "record", number);
+}
+
+/* The numbers that are none too, up to the first past the answers. */
 static void say_names(void)
 {
     char line[LINE_ROOM];
-    for (uint32_t answer = 0; answer <= NAVULOQU_DRIFT + 1; answer++) {
+    for (uint32_t answer = 0; answer <= NAVULOQU_NO_ROOM + 1; answer++) {
         put_text(line, put_number(line, 0, answer), navuloqu_answer_name(answer));
         say(NULL, line, "answer", answer);
         say(NULL, "\n", "answer", answer);
@@ -77,7 +85,7 @@ static void say_names(void)
 
 static void fail_usage(void)
 {
-    fail(2, "usage: program calls|starts|names [--control WORD [--unguarded]]; WORD is from 0 to ffff");
+    fail(2, "usage: program calls|starts|waves|names [--control WORD [--unguarded]]; WORD is from 0 to ffff");
 }
 
 static struct control control_of(int count, char **words)
@@ -105,6 +113,8 @@ int main(int count, char **words)
         say_calls(&control);
     else if (strcmp(words[1], "starts") == 0)
         say_starts(&control);
+    else if (strcmp(words[1], "waves") == 0)
+        say_waves(&control);
     else if (strcmp(words[1], "names") == 0)
         say_names();
     else
