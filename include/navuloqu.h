@@ -278,8 +278,8 @@ NAVULOQU_MUST_USE uint32_t navuloqu_classic_render(
 #define NAVULOQU_WAVE_BYTES(count) (NAVULOQU_WAVE_HEADER + 2 * (size_t)(count)) /* the bytes of a stem of so many samples */
 
 /* Writes a stem to the front of `bytes`: the header, then for each sample a signed 16-bit number, little-endian. The sample is clipped to -1
- * and 1, and its exact value times 32,767 goes to the nearest whole number; 0.5 and -0.5, which lie in the middle of two, go to the even one,
- * 16,384 and -16,384. So -1 and 1 are -32,767 and 32,767, and an infinity is clipped as any other sample. Bytes past the stem stay.
+ * and 1, an infinity too, and its exact value times 32,767 goes to the nearest whole number, ties to the even one: -1 and 1 are -32,767 and
+ * 32,767, and 0.5 and -0.5, which alone lie in the middle of two, are 16,384 and -16,384. Bytes past the stem stay.
  *
  * Returns NAVULOQU_DONE. Or NAVULOQU_BAD_PARAM where the rate lies outside its range, there are more than NAVULOQU_WAVE_MOST_SAMPLES samples,
  * or one of them is a NaN; else NAVULOQU_NO_ROOM exactly where `room` is less than NAVULOQU_WAVE_BYTES(count). Then no byte has changed:
