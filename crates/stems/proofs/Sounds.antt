@@ -14,10 +14,10 @@ use Rattle.bank.specs.Bank.{initBank, recordPlayed}
 use Rattle.bank.proofs.Refused.{record-kept, record-silent}
 use Rattle.render.specs.Lists.{recordsFrom, bankAfter}
 use Rattle.stems.specs.Sound.{soundOf, leftBy}
-use Rattle.stems.specs.Compose.{rateIn, listIn, soundIn, hasStem, stemFor}
+use Rattle.stems.specs.Compose.{givenRate, givenList, soundIn, hasStem, stemFor}
 use Rattle.stems.proofs.Laying.{left-long}
 use Rattle.stems.proofs.Followed.{records-both, both-long}
-use Rattle.stems.proofs.Ways.{stem-long}
+use Rattle.wave.proofs.Putting.{stem-long}
 
 pub one-after-another : (b : Bank) (records others : List (List ℕ)) → soundOf b (records ++ others) ≡ soundOf b records ++ soundOf (bankAfter b records) others
 unfolding soundOf bankAfter
@@ -52,6 +52,6 @@ sound-long b [] = refl
 sound-long b (p ∷ rest) = simp length-append (omega (arith, left-long b p, sound-long (recordPlayed b p .bank) rest))
 
 -- and the stem two bytes for each of them after its header
-pub stem-left : (input : List ℕ) → hasStem input ≡ true → length (stemFor input) ≡ 44 + 2 * leftBy initBank (recordsFrom (listIn input) 0 (length (listIn input) / 64))
+pub stem-left : (input : List ℕ) → hasStem input ≡ true → length (stemFor input) ≡ 44 + 2 * leftBy initBank (recordsFrom (givenList input) 0 (length (givenList input) / 64))
 unfolding stemFor
-stem-left input h = rw h (stem-long (rateIn input) (soundIn (listIn input)) ∙ rw (sound-long initBank (recordsFrom (listIn input) 0 (length (listIn input) / 64))))
+stem-left input h = rw h (stem-long (givenRate input) (soundIn (givenList input)) ∙ rw (sound-long initBank (recordsFrom (givenList input) 0 (length (givenList input) / 64))))

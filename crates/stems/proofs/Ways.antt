@@ -7,23 +7,18 @@ use native.Mathlib.Nat.{sub-zero}
 use native.Mathlib.Omega.{arith}
 use borrow.Author.Tests.{le-leb, lt-leb, leb-true, leb-false}
 use lib.Dec.{leb}
-use lib.ListN.{length, take, drop, length-append, length-drop}
+use lib.ListN.{length, take, drop, length-drop}
 use lib.Seq.{take-all, length-take-le}
 use lib.Ieee.{Float}
 use Rattle.floats.proofs.Bools.{and-both}
 use Rattle.render.specs.Lists.{isJobList}
 use Rattle.wave.specs.declared.Written.{Written}
 use Rattle.wave.specs.declared.Written.the-variants.{Done, BadParam, NoRoom}
-use Rattle.wave.specs.Form.{headerOf, samplesOf, stemOf}
 use Rattle.wave.specs.Write.{isFit, writeOf, handedBack as waveBack}
-use Rattle.wave.proofs.Putting.{header-long, samples-long}
+use Rattle.wave.proofs.Putting.{stem-long}
 use Rattle.stems.specs.declared.Composed.the-variants.{Stem, BadInput, BadParam as Unfit, NoRoom as TooShort}
-use Rattle.stems.specs.Compose.{rateIn, isInput, soundIn, Handed, written, composeOf, handedBack}
+use Rattle.stems.specs.Compose.{givenRate, isInput, soundIn, Handed, written, composeOf, handedBack}
 use Rattle.stems.specs.Private.{Laid}
-
--- "44 header bytes, then samples", of two bytes each
-pub stem-long : (rate : ℕ) (xs : List Float) → length (stemOf rate xs) ≡ 44 + 2 * length xs
-stem-long rate xs = length-append (headerOf rate (2 * length xs)) (samplesOf xs) ∙ rw (header-long rate (2 * length xs), samples-long xs)
 
 -- ---- what `wave` answered, and what is made of that
 module _ (rate : ℕ) (xs : List Float) (d d' : List ℕ) (r : Written) (e : waveBack r d' ≡ writeOf rate xs d) where
@@ -78,7 +73,7 @@ module _ (input : List ℕ) where
     refused-way h = rw h
 
     -- as the code lends the list
-    pub answered-way : (rate : ℕ) (h : Handed) → isInput input ≡ true → rate ≡ rateIn input → h ≡ written rate (soundIn (take (length input - 4) (drop 4 input))) d
+    pub answered-way : (rate : ℕ) (h : Handed) → isInput input ≡ true → rate ≡ givenRate input → h ≡ written rate (soundIn (take (length input - 4) (drop 4 input))) d
         → h ≡ composeOf input d
     unfolding composeOf
     answered-way rate h t e w = w ∙ rw (t, e, rest-whole input 4)

@@ -12,7 +12,7 @@ use Rattle.wave.specs.Form.{stemOf}
 use Rattle.wave.specs.Write.{isFit, writeOf}
 use Rattle.wave.proofs.Ways.{fit-small}
 use Rattle.stems.specs.declared.Composed.{Composed}
-use Rattle.stems.specs.Compose.{rateIn, listIn, isInput, soundIn, Handed, written, composeOf, handedBack, stemFor, numberFor}
+use Rattle.stems.specs.Compose.{givenRate, givenList, isInput, soundIn, Handed, written, composeOf, handedBack, stemFor, numberFor}
 use Rattle.stems.proofs.Ways.{unfit-written}
 
 -- the number, and the bytes of the stem
@@ -34,25 +34,25 @@ module _ (input d : List ℕ) where
   refused h = record { number-is = rw h; inside = rw h (omega arith); stem-is = rw h }
 
   module _ (h : isInput input ≡ true) where
-    unfit : isFit (rateIn input) (soundIn (listIn input)) ≡ false → Answered input (composeOf input d)
+    unfit : isFit (givenRate input) (soundIn (givenList input)) ≡ false → Answered input (composeOf input d)
     unfolding composeOf numberFor stemFor
     unfit f =
-        let same : composeOf input d ≡ record { number = 4; count = 0; bytes = d } = rw h (unfit-written (rateIn input) (soundIn (listIn input)) d f) in
+        let same : composeOf input d ≡ record { number = 4; count = 0; bytes = d } = rw h (unfit-written (givenRate input) (soundIn (givenList input)) d f) in
         rw same (record { number-is = rw (h, f); inside = omega arith; stem-is = rw (h, f) })
 
-    fit : 2097196 ≤ length d → isFit (rateIn input) (soundIn (listIn input)) ≡ true → Answered input (composeOf input d)
+    fit : 2097196 ≤ length d → isFit (givenRate input) (soundIn (givenList input)) ≡ true → Answered input (composeOf input d)
     unfolding composeOf numberFor stemFor
     fit l f =
-        let stem = stemOf (rateIn input) (soundIn (listIn input)) in
-        let same : composeOf input d ≡ record { number = 0; count = length stem; bytes = stem ++ drop (44 + 2 * length (soundIn (listIn input))) d } =
-        rw h (fit-written (rateIn input) (soundIn (listIn input)) d f l)
+        let stem = stemOf (givenRate input) (soundIn (givenList input)) in
+        let same : composeOf input d ≡ record { number = 0; count = length stem; bytes = stem ++ drop (44 + 2 * length (soundIn (givenList input))) d } =
+        rw h (fit-written (givenRate input) (soundIn (givenList input)) d f l)
         in
         rw same (record { number-is = rw (h, f); inside = simp length-append (omega arith); stem-is = take-at stem _ _ refl ∙ rw (h, f) })
 
   answered : 2097196 ≤ length d → Answered input (composeOf input d)
-  answered l = go (isInput input) refl (isFit (rateIn input) (soundIn (listIn input))) refl
+  answered l = go (isInput input) refl (isFit (givenRate input) (soundIn (givenList input))) refl
     where
-      go : (t : Bool) → isInput input ≡ t → (u : Bool) → isFit (rateIn input) (soundIn (listIn input)) ≡ u → Answered input (composeOf input d)
+      go : (t : Bool) → isInput input ≡ t → (u : Bool) → isFit (givenRate input) (soundIn (givenList input)) ≡ u → Answered input (composeOf input d)
       go false h u f = refused h
       go true h false f = unfit h f
       go true h true f = fit h l f

@@ -18,14 +18,14 @@ use Rattle.stems.specs.declared.Composed.the-variants.{Stem, BadInput as
 use Rattle.stems.specs.Sound.{soundOf}
 
 -- the rate, four bytes, the lowest first; then a job list
-abbrev pub rateIn : List ℕ → ℕ
-rateIn input = wordAt input 0
+abbrev pub givenRate : List ℕ → ℕ
+givenRate input = wordAt input 0
 
-abbrev pub listIn : List ℕ → List ℕ
-listIn input = drop 4 input
+abbrev pub givenList : List ℕ → List ℕ
+givenList input = drop 4 input
 
 abbrev pub isInput : List ℕ → Bool
-isInput input = leb 4 (length input) && isJobList (listIn input)
+isInput input = leb 4 (length input) && isJobList (givenList input)
 
 -- what a job list sounds like, from the states that every kind starts from
 abbrev pub soundIn : List ℕ → List Float
@@ -47,7 +47,7 @@ written rate xs d =
 unfoldable pub composeOf : List ℕ → List ℕ → Handed
 composeOf input d =
     cond (isInput input)
-    (written (rateIn input) (soundIn (listIn input)) d)
+    (written (givenRate input) (soundIn (givenList input)) d)
     (record { number = answerNumber BadInput; count = 0; bytes = d })
 
 -- the same of what the function answered, by cases: its number, its count, and both beside the bytes
@@ -69,10 +69,10 @@ handedBack r d = record { number = numberOf r; count = countOf r; bytes = d }
 -- ---- in the words of a promise
 -- whether an input has a stem, which one, and the number where there is always room
 abbrev pub hasStem : List ℕ → Bool
-hasStem input = isInput input && isFit (rateIn input) (soundIn (listIn input))
+hasStem input = isInput input && isFit (givenRate input) (soundIn (givenList input))
 
 unfoldable pub stemFor : List ℕ → List ℕ
-stemFor input = cond (hasStem input) (stemOf (rateIn input) (soundIn (listIn input))) []
+stemFor input = cond (hasStem input) (stemOf (givenRate input) (soundIn (givenList input))) []
 
 unfoldable pub numberFor : List ℕ → ℕ
 numberFor input = cond (hasStem input) (waveNumber Done) (cond (isInput input) (waveNumber BadParam) (answerNumber BadInput))
