@@ -24,10 +24,13 @@ tell_help() {
     esac
 }
 
-# streams_open: standard input and output are there. The number of a closed one may be given to the next file that the shell, or on another processor the
-# emulator, opens for itself: the program would then read or write that file.
-streams_open() {
+# input_open, output_open: standard input is there, and output. The number of a closed one may be given to the next file that the shell, or on another
+# processor the emulator, opens for itself: the program would then read or write that file.
+input_open() {
     (: 3<&0) 2>/dev/null || die 'cannot read standard input: it is closed'
+}
+
+output_open() {
     (: 3>&1) 2>/dev/null || die 'cannot write standard output: it is closed'
 }
 
@@ -114,19 +117,28 @@ tell_progress() {
     return "$ended"
 }
 
-# run PROGRAM: what it says on standard error is told, and is a failure unless it is a note: a program of the kit sets no exit status. A reader that has
-# enough of the output ends the program by a signal, quietly, as it does others.
+# run PROGRAM: the script ends as the program did. A note that it makes on standard error is told.
 run() {
     find_emulator
     exec 3>&1
     said=$(execute "$root/target/bin/$1" 2>&1 >&3 3>&-)
     status=$?
     exec 3>&-
-    [ -z "$said" ] || printf '%s\n' "$said" >&2
     case $status:$said in
-    0: | "0:$1: note: "*) exit 0 ;;
-    0:*) exit 2 ;;
-    141:*) exit 141 ;;
+    "0:$1: note: "*) printf '%s\n' "$said" >&2 ;;
+    *) judge ;;
+    esac
+    exit 0
+}
+
+# judge: by `status` and by what a program `said` on standard error. That is told, and is a failure: a program of the kit sets no exit status. A reader that
+# has enough of the output ends the program by a signal, quietly, as it does others.
+judge() {
+    [ "$status:$said" != 0: ] || return 0
+    [ -z "$said" ] || printf '%s\n' "$said" >&2
+    case $status in
+    0) exit 2 ;;
+    141) exit 141 ;;
     *) die "the program ended with status $status" ;;
     esac
 }
@@ -142,9 +154,11 @@ find_emulator() {
 
 # execute FILE: after find_emulator.
 execute() {
-    if [ -z "$emulator" ]; then
-        "$1"
-    else
-        "$emulator/bin/qemu-x86_64" "$emulator/lib/ld-linux-x86-64.so.2" --library-path "$emulator/lib" "$1"
-    fi
+    (become "$1")
+}
+
+# become FILE: the same, and the shell that calls it is the program from there on.
+become() {
+    [ -n "$emulator" ] || exec "$1"
+    exec "$emulator/bin/qemu-x86_64" "$emulator/lib/ld-linux-x86-64.so.2" --library-path "$emulator/lib" "$1"
 }
