@@ -11,13 +11,17 @@ mod lists;
 mod random;
 mod records;
 mod starts;
+mod stems;
+mod streams;
+mod waves;
 
 use calls::record::{Record, RECORD_BYTES};
 use calls::stats::Stats;
 use calls::Kinds;
-use std::io::{self, BufWriter, Read, Write};
+use std::io::{self, BufWriter, Write};
 use std::path::Path;
 use std::{env, fs, process};
+use streams::{cannot_write, read_input, read_records, tell, write_out};
 
 // The ported Rust as build.rs lays it out: the modules `oscillator` and `utils`.
 include!(concat!(env!("OUT_DIR"), "/source.rs"));
@@ -29,7 +33,9 @@ const USAGE: &str = "usage: compare make-leaves COUNT SEED | expect-leaves | \
     expect-lists [--stats] | make-starts COUNT SEED | expect-starts | \
     make-records COUNT SEED | expect-records | \
     make-recorded-heard | expect-heard [--stats] | \
-    first-difference leaves|calls|lists|starts|records|heard INPUT EXPECTED GOT";
+    make-waves COUNT SEED | make-recorded-waves | expect-waves [--stats] | make-boundaries | \
+    make-stems COUNT SEED DIR | make-recorded-stem | expect-stem | expect-stems COUNT SEED | \
+    first-difference leaves|calls|lists|starts|records|heard|waves|stem INPUT EXPECTED GOT";
 
 fn main() {
     let words: Vec<String> = env::args().skip(1).collect();
@@ -73,6 +79,21 @@ fn run(words: &[&str]) -> Result<(), String> {
         ["make-recorded-heard"] => write_out(&heard::stream()),
         ["expect-heard"] => expect_heard().map(|_| ()),
         ["expect-heard", "--stats"] => expect_heard().map(|tried| eprint!("{tried}")),
+        ["make-waves", count, seed] => write_out(&waves::fresh(number(count)?, number(seed)?)),
+        ["make-recorded-waves"] => write_out(&waves::recorded()),
+        ["expect-waves"] => expect_waves().map(|_| ()),
+        ["expect-waves", "--stats"] => expect_waves().map(|tried| eprint!("{tried}")),
+        ["make-boundaries"] => write_out(&waves::boundaries::table()),
+        ["make-stems", count, seed, folder] => {
+            let inputs = stems::inputs(number(count)?, number(seed)?);
+            write_files(inputs, Path::new(folder), "in")
+        }
+        ["make-recorded-stem"] => write_out(&stems::recorded()),
+        ["expect-stem"] => expect_stem(),
+        ["expect-stems", count, seed] => {
+            let lines = stems::lines(stems::inputs(number(count)?, number(seed)?))?;
+            write_out(lines.as_bytes())
+        }
         ["first-difference", what, input, expected, got] => {
             first_difference(what, [input, expected, got])
         }
@@ -160,20 +181,10 @@ fn first_difference(what: &str, names: [&str; 3]) -> Result<(), String> {
         "lists" | "heard" => lists::framed::first_difference(&input, &expected, &got),
         "starts" => starts::first_difference(&input, &expected, &got),
         "records" => of_records(records::RECORD_BYTES),
+        "waves" => waves::first_difference(&input, &expected, &got),
+        "stem" => stems::first_difference(&expected, &got),
         _ => return Err(USAGE.to_string()),
     })
-}
-
-/// Says that all agree, or the first difference, which ends the program with status 1.
-fn tell(found: Result<String, String>) -> Result<(), String> {
-    match found {
-        Ok(agreed) => write_out(format!("{agreed}\n").as_bytes()),
-        Err(told) => {
-            // A difference is what was asked for, and no error of this program: it is told alone.
-            write_out(format!("{told}\n").as_bytes())?;
-            process::exit(1);
-        }
-    }
 }
 
 fn make_lists(lists: impl Iterator<Item = Vec<u8>>) -> Result<(), String> {
@@ -187,10 +198,20 @@ fn make_lists(lists: impl Iterator<Item = Vec<u8>>) -> Result<(), String> {
 
 /// Writes each list into a file of its own, for a program that reads one list.
 fn split_lists(folder: &Path) -> Result<(), String> {
+    let input = read_input()?;
+    write_files(lists::framed::lists(&input).into_iter(), folder, "jobs")
+}
+
+/// Files of which each has its number, from 0, as its name.
+fn write_files(
+    inputs: impl Iterator<Item = impl AsRef<[u8]>>,
+    folder: &Path,
+    ending: &str,
+) -> Result<(), String> {
     let cannot = |e: io::Error| format!("cannot write to {}: {e}", folder.display());
     fs::create_dir_all(folder).map_err(cannot)?;
-    for (number, list) in lists::framed::lists(&read_input()?).iter().enumerate() {
-        fs::write(folder.join(format!("{number:06}.jobs")), list).map_err(cannot)?;
+    for (number, input) in inputs.enumerate() {
+        fs::write(folder.join(format!("{number:06}.{ending}")), input).map_err(cannot)?;
     }
     Ok(())
 }
@@ -217,33 +238,19 @@ fn expect_starts() -> Result<(), String> {
     write_out(starts::text(&read_records(starts::RECORD_BYTES)?).as_bytes())
 }
 
-/// All of it: what standard output keeps back for a line to end would be lost without a word.
-fn write_out(bytes: &[u8]) -> Result<(), String> {
-    let mut out = io::stdout().lock();
-    out.write_all(bytes).map_err(cannot_write)?;
-    out.flush().map_err(cannot_write)
+fn expect_waves() -> Result<waves::Tried, String> {
+    let mut tried = waves::Tried::default();
+    write_out(waves::text(&read_input()?, &mut tried).as_bytes())?;
+    Ok(tried)
 }
 
-fn read_input() -> Result<Vec<u8>, String> {
-    let mut input = Vec::new();
-    io::stdin()
-        .lock()
-        .read_to_end(&mut input)
-        .map_err(|e| format!("cannot read standard input: {e}"))?;
-    Ok(input)
-}
-
-fn read_records(record_bytes: usize) -> Result<Vec<u8>, String> {
-    let input = read_input()?;
-    if !input.len().is_multiple_of(record_bytes) {
-        return Err(format!(
-            "the input has {} bytes, no multiple of a record's {record_bytes}",
-            input.len()
-        ));
+/// As the program does: a file to standard output, or else a line to standard error.
+fn expect_stem() -> Result<(), String> {
+    match stems::stem(&read_input()?)? {
+        stems::Stem::Written(file) => write_out(&file),
+        stems::Stem::Refused(answer) => {
+            eprint!("{}", stems::said(answer));
+            Ok(())
+        }
     }
-    Ok(input)
-}
-
-fn cannot_write(error: io::Error) -> String {
-    format!("cannot write to standard output: {error}")
 }

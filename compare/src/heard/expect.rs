@@ -45,7 +45,7 @@ pub fn text(
 }
 
 /// What is told of a record's call, and the samples that it left: none where it is refused.
-fn played(
+pub fn played(
     carried: &mut Carried,
     record: &[u8],
     handing: impl Fn(&mut Record),

@@ -4,8 +4,8 @@
 mod expect;
 mod make;
 
-pub use expect::texts;
-pub use make::stream;
+pub use expect::{played, texts};
+pub use make::{faults, sound, stream};
 
 #[cfg(test)]
 mod tests;
