@@ -1,9 +1,12 @@
 """All wrong versions of the second implementation, and the copy of it that holds them."""
 import collections
 
-from named import NAMED
+import named
+import stems
 from regions import regions
 from variants import FIELDS, variants
+
+NAMED = named.NAMED + stems.NAMED
 
 Wrong = collections.namedtuple("Wrong", "number place what old new file region")
 
@@ -11,17 +14,21 @@ Wrong = collections.namedtuple("Wrong", "number place what old new file region")
 FILES = """calls/model/classic.rs calls/model/nes_triangle.rs calls/model/others.rs calls/model/pair.rs calls/model/ramp.rs calls/model/range.rs calls/model/render.rs calls/model/start.rs
 calls/model/string_synth.rs calls/model/super_square.rs calls/model/targets.rs calls/model/variable_saw.rs calls/model/variable_shape.rs
 calls/model/words.rs calls/line.rs heard/expect.rs leaves/answers.rs lists/expect.rs lists/job.rs lists/mod.rs starts/init.rs
-starts/set.rs""".split()
+starts/set.rs stems/expect.rs waves/number.rs waves/stem.rs waves/write.rs""".split()
+
+# Those that compute with whole numbers alone: nothing there can be fused.
+WHOLE_FILES = ("stems/", "waves/")
 
 # What only fills a buffer, prints or makes records says nothing that a definition says.
 PASSED_OVER = {
     "calls/line.rs": {"buffer", "canonical", "checksum", "line"},
     "heard/expect.rs": {"texts", "text"},
     "lists/job.rs": {"job"},
+    "stems/expect.rs": {"said", "lines", "first_difference", "place"},
     "leaves/answers.rs": {"left_open", "is_signalling", "min", "max", "clamp", "whole_part"},
 }
 
-# The number that chooses a version, and a range with any ends.
+# The number that chooses a version, a range with any ends, and bytes in their other order.
 MODULE = """//! Which wrong version is run, and what some of them need.
 use std::sync::OnceLock;
 
@@ -32,6 +39,10 @@ pub fn number() -> usize {
 
 pub fn kept(x: f32, low: f32, low_out: bool, high: f32, high_out: bool) -> bool {
     (low < x || (low == x && !low_out)) && (x < high || (x == high && !high_out))
+}
+
+pub fn reversed<const N: usize>(bytes: &[u8; N]) -> [u8; N] {
+    std::array::from_fn(|i| bytes[N - 1 - i])
 }
 """
 
@@ -60,7 +71,7 @@ def wrongs(src):
         for region in regions(text, PASSED_OVER.get(file, ())):
             old = text[slice(*region)]
             place = f"{file}:{text.count(chr(10), 0, region[0]) + 1}"
-            found = list(variants(old, fields))
+            found = list(variants(old, fields, file.startswith(WHOLE_FILES)))
             for k, (name, expression, what, new) in enumerate(NAMED):
                 if file == name and plain(old) == plain(expression):
                     unused.pop(k, None)

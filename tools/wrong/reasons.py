@@ -14,6 +14,7 @@ BELOW_END = "no step comes to that end: it goes from 17/64 at most (string 17/32
 SCALED = "a power of two scales the difference without another rounding, and where it overflows both are infinite"
 BETWEEN = "half of a difference, and the low-pass lies between: it does not overflow, and beside what is subnormal the other term is 0 or not changed by it"
 NEXT_ROW = "the next row asks that the byte is 0 of every kind that this one asks it of"
+NO_PART = "a subnormal number is far below half of 1 / 32,767: its number is 0"
 NEAR_ZERO = "the number compared is 0 or at least 2^-40"
 
 NES, PAIR, RAMP, STRING = "calls/model/nes_triangle.rs", "calls/model/pair.rs", "calls/model/ramp.rs", "calls/model/string_synth.rs"
@@ -75,6 +76,10 @@ REASONS = [
     ("lists/job.rs", "one up", "(16..20,", "16..(20 + 1)", NEXT_ROW),
     ("lists/job.rs", "one up", "(20..24,", "20..(24 + 1)", NEXT_ROW),
     ("lists/job.rs", "one up", "(28..56,", "28..(56 + 1)", NEXT_ROW),
+    ("waves/number.rs", "ties away from zero", "", "", "the only tie is 0.5, and of 16,383 and 16,384 the even one lies away from 0"),
+    ("waves/number.rs", "clipped after rounding, to -32,767", "", "", "rounding keeps the order and leaves 32,767 as it is, so that it may come first"),
+    ("waves/number.rs", "", "Whole::new(fraction, 0)", "", NO_PART),
+    ("stems/expect.rs", "one up", "vec![0;", "vec![(0 + 1);", "every byte of the file is written"),
     ("", "room's high end", "", "..frequency_room", BELOW_END),
     ("", "room's high end", "", "..Room::frequency(", BELOW_END),
     ("", "room's low end one float up", "", "..frequency_room", LEAST),

@@ -12,14 +12,16 @@ COUNTS = ["cycles", "rises", "falls", "cuts"]
 FIELDS = ["FREQUENCY_AT", "MASTER_OR_GAIN_AT", "WIDTH_OR_SHAPE_AT", "WAVESHAPE_AT", "PHASE_MODULATION_AT"]
 FLOAT_CONSTANTS = {"NOTCH_DEPTH", "HIGHEST", "MAX_FREQUENCY", "WHOLE_PART_END", "RENDERERS_RATE", "REF_SAMPLE_RATE", "LOWEST_RATE", "HIGHEST_RATE"}
 WHOLE_CONSTANTS = {"MOST_BITS", "STEPS", "LONGEST_BLOCK", "MOST_BYTES", "JOB_BYTES", "MOST_STEPS", "MOST_FLAGS", "MOST_SHAPE"}
+WHOLE_CONSTANTS |= {"PLACES", "SCALE", "FRACTION_BITS", "INFINITE", "SIGN", "LEAST_RATE", "MOST_RATE", "MOST_SAMPLES", "HEADER_BYTES"}
+WHOLE_CONSTANTS |= {"NO_LIST", "BAD_PARAM", "NO_ROOM", "DONE"}
 RANGE = "crate::calls::model::range::"
 LOWEST = "crate::oscillator::oscillator::MIN_FREQUENCY"
 ROOMS = {"frequency_room", "gain_room", "modulation_room"}
 
 
 class Expression:
-    def __init__(self, text):
-        self.text, self.ts = text, tokens(text)
+    def __init__(self, text, is_whole=False):
+        self.text, self.ts, self.is_whole = text, tokens(text), is_whole
         self.texts = [t.text for t in self.ts]
 
     def part(self, i, j):
@@ -110,7 +112,9 @@ def distributed(e):
 
 
 def fused(e, a, sign, b, k):
-    """A product and a sum rounded once."""
+    """A product and a sum rounded once; of whole numbers none is rounded."""
+    if e.is_whole:
+        return
     first, second = e.split(*a, "*"), e.split(*b, "*")
     if len(second[0]) > 1 and "/" not in e.texts[b[0] : b[1]]:
         last = second[0][-1]
@@ -268,9 +272,9 @@ def rows(e):
                 yield "two fields exchanged", text
 
 
-def variants(text, fields):
-    """(what, wrong text) of an expression; `fields` are those of the record that its file reads."""
-    e, seen = Expression(text), {text}
+def variants(text, fields, is_whole=False):
+    """(what, wrong text) of an expression; `fields` are those of the record that its file reads, and `is_whole` says that it has no float."""
+    e, seen = Expression(text, is_whole), {text}
     for rule in (regrouped(e), distributed(e), assigned(e), constants(e), comparisons(e), bools(e), ranges(e), rooms(e), names(e, fields), rows(e)):
         for what, new in rule:
             if new not in seen:

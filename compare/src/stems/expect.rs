@@ -6,7 +6,7 @@ use crate::lists::expect::Carried;
 use crate::lists::{refused, Tried, JOB_BYTES};
 use crate::waves::{checksum, write, DONE, HEADER_BYTES};
 
-const BAD_INPUT: u32 = 8;
+const NO_LIST: u32 = 8;
 
 /// A refusal's number goes to standard error, a file to standard output.
 #[derive(Debug, PartialEq)]
@@ -17,13 +17,13 @@ pub enum Stem {
 
 pub fn stem(input: &[u8]) -> Result<Stem, String> {
     let Some((rate, list)) = input.split_first_chunk() else {
-        return Ok(Stem::Refused(BAD_INPUT));
+        return Ok(Stem::Refused(NO_LIST));
     };
     if refused(list) {
-        return Ok(Stem::Refused(BAD_INPUT));
+        return Ok(Stem::Refused(NO_LIST));
     }
     let rate = u32::from_le_bytes(*rate);
-    let samples = samples(list)?;
+    let samples = samples(Carried::start(), list)?;
     let mut file = vec![0; HEADER_BYTES + 2 * samples.len()];
     let answer = write(rate, &samples, &mut file);
     Ok(match answer {
@@ -33,8 +33,7 @@ pub fn stem(input: &[u8]) -> Result<Stem, String> {
 }
 
 /// What the records of a list left, by its bits, laid end to end; a refused one leaves nothing.
-fn samples(list: &[u8]) -> Result<Vec<u32>, String> {
-    let mut carried = Carried::start();
+fn samples(mut carried: Carried, list: &[u8]) -> Result<Vec<u32>, String> {
     let mut samples = Vec::new();
     for (index, record) in list.chunks(JOB_BYTES).enumerate() {
         let left = played(&mut carried, record, |_| (), &mut Tried::default())

@@ -11,10 +11,11 @@ pub fn stem(rate: u32, numbers: &[i64]) -> Vec<u8> {
         .collect()
 }
 
-/// The header of `size` bytes of samples.
+/// The header of `size` bytes of samples: what follows the second field, a chunk with the format (PCM,
+/// mono, samples and bytes a second, bytes and bits of a sample), and the head of the samples' chunk.
 fn header(rate: u32, size: u32) -> Vec<u8> {
-    let fields: [&[u8]; 13] = [
-        b"RIFF",
+    [
+        &b"RIFF"[..],
         &dword(36 + size),
         b"WAVE",
         b"fmt ",
@@ -27,8 +28,8 @@ fn header(rate: u32, size: u32) -> Vec<u8> {
         &word(16),
         b"data",
         &dword(size),
-    ];
-    fields.concat()
+    ]
+    .concat()
 }
 
 fn dword(value: u32) -> [u8; 4] {
