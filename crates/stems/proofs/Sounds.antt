@@ -19,6 +19,7 @@ use Rattle.stems.proofs.Laying.{left-long}
 use Rattle.stems.proofs.Followed.{records-both, both-long}
 use Rattle.wave.proofs.Putting.{stem-long}
 
+-- records after others sound after them, from the states that those leave
 pub one-after-another : (b : Bank) (records others : List (List ℕ)) → soundOf b (records ++ others) ≡ soundOf b records ++ soundOf (bankAfter b records) others
 unfolding soundOf bankAfter
 one-after-another b [] others = refl
@@ -26,7 +27,7 @@ one-after-another b (p ∷ rest) others =
     ap (λ (xs : List Float). recordPlayed b p .samples ++ xs) (one-after-another (recordPlayed b p .bank) rest others)
     ∙ sym (append-assoc (recordPlayed b p .samples) (soundOf (recordPlayed b p .bank) rest) (soundOf (bankAfter (recordPlayed b p .bank) rest) others))
 
--- so of the bytes of two lists: the sound of the one, and then that of the other from the states that the one leaves
+-- so of the bytes of two lists
 pub followed : (list other : List ℕ) → length list % 64 ≡ 0 → length other % 64 ≡ 0
     → soundIn (list ++ other) ≡ soundIn list ++ soundOf (bankAfter initBank (recordsFrom list 0 (length list / 64))) (recordsFrom other 0 (length other / 64))
 followed list other h k =
