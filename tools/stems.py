@@ -61,7 +61,7 @@ def text_of(program):
 
 
 class Script(checkout.Checkout):
-    """With a list of one record, and a stem that was there before."""
+    """With a list of one record, and a stem that was there before. No folder is there for what is made elsewhere."""
 
     script = "stem"
     reads = ["tools/program.sh", "tools/scratch.sh"]
@@ -71,6 +71,7 @@ class Script(checkout.Checkout):
         super().setUp()
         self.put("list", RECORD)
         self.put("old.wav", OLD)
+        self.environment["TMPDIR"] = self.root + "/nowhere"
         self.before = set(os.listdir(self.root))
 
     def built(self):
