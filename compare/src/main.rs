@@ -79,6 +79,17 @@ fn run(words: &[&str]) -> Result<(), String> {
         ["make-recorded-heard"] => write_out(&heard::stream()),
         ["expect-heard"] => expect_heard().map(|_| ()),
         ["expect-heard", "--stats"] => expect_heard().map(|tried| eprint!("{tried}")),
+        ["first-difference", what, input, expected, got] => {
+            first_difference(what, [input, expected, got])
+        }
+        #[cfg(library)]
+        ["buffers", count, seed] => tell(buffers::compare(number(count)?, number(seed)?)),
+        _ => run_on_stems(words),
+    }
+}
+
+fn run_on_stems(words: &[&str]) -> Result<(), String> {
+    match words {
         ["make-waves", count, seed] => write_out(&waves::fresh(number(count)?, number(seed)?)),
         ["make-recorded-waves"] => write_out(&waves::recorded()),
         ["expect-waves"] => expect_waves().map(|_| ()),
@@ -94,11 +105,6 @@ fn run(words: &[&str]) -> Result<(), String> {
             let lines = stems::lines(stems::inputs(number(count)?, number(seed)?))?;
             write_out(lines.as_bytes())
         }
-        ["first-difference", what, input, expected, got] => {
-            first_difference(what, [input, expected, got])
-        }
-        #[cfg(library)]
-        ["buffers", count, seed] => tell(buffers::compare(number(count)?, number(seed)?)),
         _ => Err(USAGE.to_string()),
     }
 }
