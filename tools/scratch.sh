@@ -28,8 +28,8 @@ cannot_write() {
     die "cannot write $out: ${said:-what wrote it ended with status $status}"
 }
 
-# make_scratch FILE..: the folder, under a name that nothing else has, and these files in it, empty. mktemp hears no signal, which could end it between making
-# the folder and telling its name. The words of the system's tools, which are told where they fail, are the same in every language from here on.
+# make_scratch FILE..: the folder, under a name that nothing else has, and these files in it, empty. What makes them hears no signal, which could end mktemp
+# between making the folder and telling its name. The words of the system's tools, which are told where they fail, are the same in every language from here on.
 make_scratch() {
     LC_ALL=C
     export LC_ALL
@@ -41,7 +41,10 @@ make_scratch() {
         trap '' HUP INT TERM
         mktemp -d "$folder.$name.XXXXXX" 2>&1
     ) || said=$scratch cannot_write
-    said=$(cd "$scratch" && touch -- said "$@" 2>&1) || cannot_write
+    said=$(
+        trap '' HUP INT TERM
+        cd "$scratch" && touch -- said "$@" 2>&1
+    ) || cannot_write
 }
 
 # remove_scratch: whatever ends the script. Where no folder was made the variable holds nothing, or why.
@@ -75,7 +78,8 @@ work() {
 # put_target FILE: this file of the folder gets the name that was asked for, in one step, after all of it is on the disk: some file systems say only then that
 # there was no room. From the step on no signal is heard, so that what a signal ends has changed nothing.
 put_target() {
-    said=$(sync "$scratch/$1" 2>&1) || cannot_write
+    work sync "$scratch/$1" 4</dev/null
+    [ "$status" -eq 0 ] || cannot_write
     trap '' HUP INT TERM
     said=$(mv -fT -- "$scratch/$1" "$target" 2>&1) || cannot_write
 }
