@@ -6,10 +6,20 @@ use native.Mathlib.Nat.{add-sub-cancel-left}
 use native.Mathlib.Numerals.{add-one}
 use native.Mathlib.Omega.{arith}
 use lib.ListN.{length, getD, take, drop, set, length-append, length-set}
-use lib.Seq.{take-at, drop-at, take-length, drop-length, drop-drop, take-suc, take-all, drop-cons, set-at, append-snoc, length-take-le}
+use lib.Seq.{sets, take-at, drop-at, take-length, drop-length, drop-drop, take-suc, take-all, drop-cons, set-at, append-snoc, length-take-le}
 use lib.Ieee.{Float}
 use Rattle.wave.specs.Pcm.{pcmOf, heldAs}
 use Rattle.wave.specs.Form.{lowFirst, headerOf, samplesOf, stemOf}
+
+-- ---- four bytes of a number, one after the other
+pub dword-put : (l : List ℕ) (at v a b c d : ℕ) → a ≡ v % 256 → b ≡ v / 256 % 256 → c ≡ v / 256 / 256 % 256 → d ≡ v / 256 / 256 / 256 % 256
+    → set (set (set (set l at a) (at + 1) b) (at + 2) c) (at + 3) d ≡ sets l at (lowFirst 4 v)
+unfolding lowFirst
+dword-put l at v a b c d p q r s =
+    let one : at + 1 ≡ suc at = omega arith in
+    let two : at + 2 ≡ suc (suc at) = omega arith in
+    let three : at + 3 ≡ suc (suc (suc at)) = omega arith in
+    rw (p, q, r, s, one, two, three)
 
 -- ---- the numbers of samples
 pub samples-long : (xs : List Float) → length (samplesOf xs) ≡ 2 * length xs

@@ -18,7 +18,7 @@ dword v = lowFirst 4 v
 abbrev pub word : ℕ → List ℕ
 word v = lowFirst 2 v
 
--- the ASCII letters that name a chunk or a form
+-- the ASCII letters that name a chunk or a form: "RIFF", "WAVE", "fmt " and "data"
 abbrev pub riffId : List ℕ
 riffId = 82 ∷ 73 ∷ 70 ∷ 70 ∷ []
 
