@@ -47,7 +47,7 @@ pub play-neither : {S : Type 0} (make : S → List Float → Float → Sample S)
 unfolding play
 play-neither make one [] xs s c h = h
 play-neither make one (steps ∷ rest) [] s c h = h
-play-neither make one (steps ∷ rest) (x ∷ xs) s c h = let t = one s steps x in play-neither make one rest xs _ _ (record { falls = rw (h .falls, t .falls); cuts = rw (h .cuts, t .cuts) })
+play-neither make one (steps ∷ rest) (x ∷ xs) s c h = let t = one s steps x in play-neither make one rest xs _ _ (record { falls = omega (arith, h .falls, t .falls); cuts = rw (h .cuts, t .cuts) })
 
 limited : {c : Counts} → Few 1 c → Limited c
 limited f = record { cycles = f .cycles; falls = f .falls; rises = f .rises }

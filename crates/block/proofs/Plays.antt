@@ -13,7 +13,7 @@ use Rattle.block.specs.declared.Counts.{Counts}
 use Rattle.rooms.specs.declared.Room.{Room}
 use Rattle.rooms.specs.declared.Found.{Found}
 use Rattle.rooms.specs.declared.Found.the-variants.{Outside, Nowhere}
-use Rattle.block.specs.Counting.{noCounts, plus, modulo32, oneIf}
+use Rattle.block.specs.Counting.{noCounts, plus, modulo32, oneIf, late}
 use Rattle.rooms.specs.Steps.{moved, values, stepsOf, allIn, later, firstOutside}
 use Rattle.block.specs.Play.{Sample, Heard}
 use Rattle.block.specs.Limits.{Few}
@@ -41,12 +41,17 @@ pub few-most : {m n : ℕ} {c : Counts} → m ≤ n → Few m c → Few n c
 few-most h f = record { cycles = omega (arith, f .cycles); rises = omega (arith, f .rises); falls = omega (arith, f .falls); cuts = omega (arith, f .cuts) }
 
 -- so few that 32 bits hold them
-in-32 : (n : ℕ) → n ≤ 8194 → n % 2 ^ 32 ≡ n
+in-32 : (n : ℕ) → n ≤ 12291 → n % 2 ^ 32 ≡ n
 in-32 n h = mod-eq-of-lt {n = n} {m = 2 ^ 32} (omega arith)
 
 pub few-fit : {i : ℕ} {c : Counts} → i ≤ 4097 → Few i c → modulo32 c ≡ c
 few-fit {i} {c} h f =
-    rw (in-32 (c .cycles) (omega (arith, f .cycles)), in-32 (c .rises) (omega (arith, f .rises)), in-32 (c .falls) (omega (arith, f .falls)), in-32 (c .cuts) (omega (arith, f .cuts)))
+    rw (in-32 (c .cycles) (omega (arith, f .cycles)), in-32 (c .rises) (omega (arith, f .rises)), in-32 (c .falls) (omega (arith, f .falls)))
+    (rw (in-32 (c .cuts) (omega (arith, f .cuts)), in-32 (c .«late_rises») (omega (arith, f .rises)), in-32 (c .«late_falls») (omega (arith, f .falls))))
+
+-- and both late ones together
+pub late-fits : {i : ℕ} {c : Counts} → i ≤ 4097 → Few i c → late c ≡ c .«late_rises» + c .«late_falls»
+late-fits {i} {c} h f = in-32 (c .«late_rises» + c .«late_falls») (omega (arith, f .rises, f .falls))
 
 -- every step that an interpolator gives is a binary32 value
 pub steps-fit : (ps : List ParameterInterpolator) → AllFit (values (moved ps))

@@ -7,6 +7,7 @@ use Rattle.block.proofs.index
 use Rattle.block.proofs.none
 use Rattle.block.proofs.sum
 use Rattle.block.proofs.one_if
+use Rattle.block.proofs.late
 
 pub number-tight : Determines number.ended number.Reads.Learnt
 number-tight κs a r q v w h k = (coincide h k, refl)
@@ -22,3 +23,6 @@ sum-tight κs a r q v w h k = (coincide h k, refl)
 
 pub one-if-tight : Determines one_if.ended one_if.Reads.Learnt
 one-if-tight κs a r q v w h k = (coincide h k, refl)
+
+pub late-tight : Determines late.ended late.Reads.Learnt
+late-tight κs a r q v w h k = (coincide h k, refl)

@@ -1,7 +1,7 @@
 // What a call answers and counts, for every oscillator.
 ghost use mathlib.Core.Path.{_≡_};
 ghost use Rattle.block.specs.Answers.{numberOf, indexOf};
-ghost use Rattle.block.specs.Counting.{noCounts, plus, modulo32, oneIf};
+ghost use Rattle.block.specs.Counting.{noCounts, plus, modulo32, oneIf, late as lateOf};
 
 // 01, "Answer numbers".
 pub enum Answer {
@@ -50,11 +50,14 @@ pub fn index(answer: Answer) -> u32
     }
 }
 
+// The rises and falls are those that are not late. The late ones are kept apart, since a balance needs to know which they are.
 pub struct Counts {
     pub cycles: u32,
     pub rises: u32,
     pub falls: u32,
     pub cuts: u32,
+    pub late_rises: u32,
+    pub late_falls: u32,
 }
 
 // What a refused call counts, and what a block starts from.
@@ -66,6 +69,8 @@ pub fn none() -> Counts
         rises: 0,
         falls: 0,
         cuts: 0,
+        late_rises: 0,
+        late_falls: 0,
     }
 }
 
@@ -78,7 +83,16 @@ pub fn sum(a: Counts, b: Counts) -> Counts
         rises: std::num::wrapping_add_u32(a.rises, b.rises),
         falls: std::num::wrapping_add_u32(a.falls, b.falls),
         cuts: std::num::wrapping_add_u32(a.cuts, b.cuts),
+        late_rises: std::num::wrapping_add_u32(a.late_rises, b.late_rises),
+        late_falls: std::num::wrapping_add_u32(a.late_falls, b.late_falls),
     }
+}
+
+// The fifth number that is told: the late rises and the late falls together, modulo 2^32 too.
+pub fn late(c: Counts) -> u32
+    ensures { λ r. ⌜ r ≡ lateOf c ⌝ }
+{
+    std::num::wrapping_add_u32(c.late_rises, c.late_falls)
 }
 
 // A bool counted.

@@ -15,6 +15,7 @@ use Rattle.ranges.specs.Ranges.{unitIn}
 use Rattle.rooms.specs.declared.Room.the-variants.{Frequency, PulseWidth}
 use Rattle.rooms.specs.Steps.{allIn}
 use Rattle.rooms.proofs.RangeLaws.{frequency-step, step-frequency, width-unit}
+use Rattle.block.specs.Counting.{allRises, allFalls}
 use Rattle.block.specs.Fit.{Inside}
 use Rattle.block.specs.Limits.{Balanced}
 use Rattle.block.proofs.Plays.{Keeps}
@@ -38,8 +39,8 @@ pub record Law (shape : OscillatorShape) (s : State) (frequency step : Float) (a
   pub phase : Step (t .state .phase) (t .counts .cycles) a b cycle tick cycle
   pub frequency-is : t .state .frequency ≡ frequency
   pub pw-is : t .state .pw ≡ keptWidth shape step (s .pw)
-  pub rises : t .counts .rises ≤ 1
-  pub falls : t .counts .falls ≤ 1
+  pub rises : allRises (t .counts) ≤ 1
+  pub falls : allFalls (t .counts) ≤ 1
   pub cuts : t .counts .cuts ≡ 0
   pub balance : Balanced (s .high) (t .counts) (t .state .high)
 

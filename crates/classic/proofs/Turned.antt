@@ -8,6 +8,7 @@ use Rattle.floats.specs.F32.{_⊕_, _⊖_, _⊘_, one32, two32}
 use Rattle.block.specs.Counting.{oneIf}
 use Rattle.edges.specs.declared.Edge.{Edge}
 use Rattle.edges.specs.Counted.{startOf}
+use Rattle.edges.proofs.Totals.{everyRise, everyFall}
 use Rattle.classic.specs.declared.OscillatorShape.{OscillatorShape}
 use Rattle.classic.specs.declared.OscillatorShape.the-variants.{ImpulseTrain, Saw, Triangle, Slope, Square, SquareBright, SquareDark, SquareTriangle}
 use Rattle.classic.specs.Edges.{sawWrap, sawEdges, triangleCross, triangleAtWidth, triangleWrap, triangleEdges, squareCross, squareAtWidth, squareWrap, squareEdges, edgesOf}
@@ -15,9 +16,9 @@ use Rattle.classic.specs.Edges.{sawWrap, sawEdges, triangleCross, triang
 -- of a sample whose phase has come to p, and that was high or not
 pub record Turned (p : Float) (high : Bool) (e : Edge) : Type 0 where
   pub phase : e .phase ≡ cond (le one32 p) (p ⊖ one32) p
-  pub rises : e .crossings .rises ≤ 1
-  pub falls : e .crossings .falls ≤ 1
-  pub balance : e .crossings .rises + oneIf high ≡ e .crossings .falls + oneIf (e .high)
+  pub rises : everyRise (e .crossings) ≤ 1
+  pub falls : everyFall (e .crossings) ≤ 1
+  pub balance : everyRise (e .crossings) + oneIf high ≡ everyFall (e .crossings) + oneIf (e .high)
 
 -- ImpulseTrain and Saw
 module _ (f : Float) (p x : Float) where

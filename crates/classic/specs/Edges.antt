@@ -10,13 +10,26 @@ use Rattle.edges.specs.declared.Edge.{Edge}
 use Rattle.classic.specs.declared.OscillatorShape.{OscillatorShape}
 use Rattle.classic.specs.declared.OscillatorShape.the-variants.{ImpulseTrain, Saw, Triangle, Slope, Square, SquareBright, SquareDark, SquareTriangle}
 
--- 01: "each time `high` turns true or false by a crossing", here by whichever line sets it. 32 bits hold the numbers, and a sample has one of each at most.
+-- 01: "each time `high` turns true or false by a crossing", here by whichever line sets it. 32 bits hold the numbers, and a sample has one of each at most. It has no reset: none is late.
 abbrev pub changed : Bool → Bool → Crossings → Crossings
-changed before after c = record { rises = (c .rises + oneIf (not before && after)) % 2 ^ 32; falls = (c .falls + oneIf (before && not after)) % 2 ^ 32 }
+changed before after c = record {
+  rises = (c .rises + oneIf (not before && after)) % 2 ^ 32;
+  falls = (c .falls + oneIf (before && not after)) % 2 ^ 32;
+  «late_rises» = c .«late_rises»;
+  «late_falls» = c .«late_falls»;
+}
 
 -- e with its phase, `high` and samples as they are set
 abbrev pub turned : Float → Bool → Float → Float → Edge → Edge
-turned phase high thisSample nextSample e = record { phase = phase; high = high; «this_sample» = thisSample; «next_sample» = nextSample; crossings = changed (e .high) high (e .crossings) }
+turned phase high thisSample nextSample e = record {
+  phase = phase;
+  high = high;
+  «this_sample» = thisSample;
+  «next_sample» = nextSample;
+  reset = e .reset;
+  «reset_time» = e .«reset_time»;
+  crossings = changed (e .high) high (e .crossings);
+}
 
 -- ---- ImpulseTrain and Saw
 -- lines 116 to 119: `high` stays, and nothing is crossed
@@ -29,6 +42,8 @@ sawWrap frequency e =
       high = e .high;
       «this_sample» = e .«this_sample» ⊖ thisBlepSample t;
       «next_sample» = e .«next_sample» ⊖ nextBlepSample t;
+      reset = e .reset;
+      «reset_time» = e .«reset_time»;
       crossings = e .crossings;
     }
 

@@ -15,9 +15,13 @@ fn turn(e: Edge, phase: f32, high: bool, this_sample: f32, next_sample: f32) -> 
         high,
         this_sample,
         next_sample,
+        reset: e.reset,
+        reset_time: e.reset_time,
         crossings: Crossings {
             rises: std::num::wrapping_add_u32(e.crossings.rises, block::one_if(!e.high & high)),
             falls: std::num::wrapping_add_u32(e.crossings.falls, block::one_if(e.high & !high)),
+            late_rises: e.crossings.late_rises,
+            late_falls: e.crossings.late_falls,
         },
     }
 }

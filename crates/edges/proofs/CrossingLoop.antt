@@ -3,8 +3,7 @@
 use mathlib.Core.Path.{_≡_, refl, sym, _∙_, ap, subst}
 use mathlib.Core.Bool.{Bool, true, false, not, _&&_, cond, true≢false}
 use mathlib.Core.Logic.{_⊎_, inl, inr, ⊎-elim}
-use Prim.Native.Nat.{ℕ, suc, _+_, _*_, _%_, _^_, _≤_, _<_, _-_}
-use native.Mathlib.Nat.{mod-eq-of-lt}
+use Prim.Native.Nat.{ℕ, suc, _+_, _*_, _≤_, _<_, _-_}
 use native.Mathlib.Omega.{arith}
 use borrow.Author.Tests.{not-true, not-false}
 use lib.Ieee.{Float, lt}
@@ -14,14 +13,16 @@ use Rattle.floats.proofs.At.{At}
 use Rattle.floats.proofs.Ranges.{Under, UpTo, under-of, upto-of, passed-lt, failed-lt, passes-lt}
 use Rattle.edges.specs.declared.Edge.{Edge}
 use Rattle.block.specs.Counting.{oneIf}
+use Rattle.edges.specs.Counted.{isLate}
 use Rattle.edges.specs.CrossingLoop.{turns, crossingLoop, Crosses, Starts}
 use Rattle.edges.specs.Private.{Crossable}
+use Rattle.edges.proofs.Totals.{everyRise, everyFall, rose-more, fell-more}
 
--- what is counted, from a slave that was high or low
+-- what is counted, late or not, from a slave that was high or low
 pub record Counted (high : Bool) (r : Edge) : Type 0 where
-  pub rises : r .crossings .rises ≤ 2
-  pub falls : r .crossings .falls ≤ 1
-  pub balance : r .crossings .rises + oneIf high ≡ r .crossings .falls + oneIf (r .high)
+  pub rises : everyRise (r .crossings) ≤ 2
+  pub falls : everyFall (r .crossings) ≤ 1
+  pub balance : everyRise (r .crossings) + oneIf high ≡ everyFall (r .crossings) + oneIf (r .high)
 
 -- and the phase that the loop leaves
 pub record Crossed (high : Bool) (r : Edge) : Type 0 where
@@ -39,10 +40,6 @@ turnsOf x k e = turns k (x .width) (x .rise) (x .fall) e
 abbrev pub again : Edge → ℕ
 again e = cond (lt (e .phase) one32) 0 1
 
--- a count so small does not start again at 0
-one-more : {n : ℕ} → n ≤ 1 → (n + 1) % 2 ^ 32 ≡ n + 1
-one-more {n} h = mod-eq-of-lt {n = n + 1} {m = 2 ^ 32} (omega arith)
-
 -- the loop has come from e₀ to e, and `more` turns may follow this one
 pub record Going (x : Crosses) (e₀ e : Edge) : Type 0 where
   pub narrow : Under (x .width) cycle
@@ -50,9 +47,9 @@ pub record Going (x : Crosses) (e₀ e : Edge) : Type 0 where
   pub same : turnsOf x (suc more) e ≡ looped x e₀
   pub last : more ≡ 0 → lt (e .phase) one32 ≡ true
   pub phase : UpTo (e .phase) (21233664 * tick)
-  pub rises : e .crossings .rises + more ≤ 1
-  pub falls : e .crossings .falls + more ≤ 1
-  pub balance : e .crossings .rises + oneIf (e₀ .high) ≡ e .crossings .falls + oneIf (e .high)
+  pub rises : everyRise (e .crossings) + more ≤ 1
+  pub falls : everyFall (e .crossings) + more ≤ 1
+  pub balance : everyRise (e .crossings) + oneIf (e₀ .high) ≡ everyFall (e .crossings) + oneIf (e .high)
 
 -- r is e after the first half of a turn that does not stop there
 pub record Risen (x : Crosses) (e r : Edge) : Type 0 where
@@ -107,19 +104,19 @@ module _ {x : Crosses} {e r : Edge} (w : Risen x e r) where
       go true h = h
       go false h = x .rises e .high
 
-  pub same-falls : r .crossings .falls ≡ e .crossings .falls
+  pub same-falls : everyFall (r .crossings) ≡ everyFall (e .crossings)
   same-falls = rw (w .is) (go (e .high))
     where
-      go : (b : Bool) → cond b e (x .rise e) .crossings .falls ≡ e .crossings .falls
+      go : (b : Bool) → everyFall (cond b e (x .rise e) .crossings) ≡ everyFall (e .crossings)
       go true = refl
       go false = rw (x .rises e .counts) refl
 
-  pub more-rises : e .crossings .rises ≤ 1 → r .crossings .rises + oneIf (e .high) ≡ e .crossings .rises + 1
+  pub more-rises : everyRise (e .crossings) ≤ 1 → everyRise (r .crossings) + oneIf (e .high) ≡ everyRise (e .crossings) + 1
   more-rises h = rw (w .is) (go (e .high))
     where
-      go : (b : Bool) → cond b e (x .rise e) .crossings .rises + oneIf b ≡ e .crossings .rises + 1
+      go : (b : Bool) → everyRise (cond b e (x .rise e) .crossings) + oneIf b ≡ everyRise (e .crossings) + 1
       go true = refl
-      go false = rw (x .rises e .counts) (omega (arith, one-more h))
+      go false = rw (x .rises e .counts) (omega (arith, rose-more (isLate e (x .rises e .t)) (e .crossings) h))
 
   -- r is again below 1 exactly where e was
   pub same-test : {b : Bool} → lt (r .phase) one32 ≡ b → lt (e .phase) one32 ≡ b
@@ -138,13 +135,13 @@ module _ {x : Crosses} {e₀ e : Edge} (g : Going x e₀ e) where
     }
 
   module _ {r : Edge} (w : Risen x e r) where
-    few : e .crossings .rises ≤ 1
+    few : everyRise (e .crossings) ≤ 1
     few = omega (arith, g .rises)
 
     reached : UpTo (r .phase) (21233664 * tick)
     reached = rw (same-phase w) (g .phase)
 
-    balanced : r .crossings .rises + oneIf (e₀ .high) ≡ r .crossings .falls + 1
+    balanced : everyRise (r .crossings) + oneIf (e₀ .high) ≡ everyFall (r .crossings) + 1
     balanced = omega (arith, g .balance, more-rises w few, same-falls w)
 
     -- or in the second
@@ -176,8 +173,11 @@ module _ {x : Crosses} {e₀ e : Edge} (g : Going x e₀ e) where
       pub below-again : lt (x .fall r .phase) one32 ≡ true
       below-again = passes-lt wrapped one-at (omega (arith, reached .most))
 
-      one-fall : x .fall r .crossings .falls ≡ 1
-      one-fall = rw (x .falls r .counts, same-falls w) (let z : e .crossings .falls ≡ 0 = omega (arith, first, g .falls) in rw z refl)
+      no-fall : everyFall (r .crossings) ≡ 0
+      no-fall = omega (arith, same-falls w, first, g .falls)
+
+      pub one-fall : everyFall (x .fall r .crossings) ≡ 1
+      one-fall = rw (x .falls r .counts) (omega (arith, fell-more (isLate r (x .falls r .t)) (r .crossings) (omega (arith, no-fall)), no-fall))
 
       fall-goes : Going x e₀ (x .fall r)
       fall-goes = record {
@@ -188,7 +188,7 @@ module _ {x : Crosses} {e₀ e : Edge} (g : Going x e₀ e) where
         phase = record { n = reached .n - cycle; at = wrapped; most = omega (arith, reached .most) };
         rises = rw (x .falls r .counts) (omega (arith, more-rises w few, first, g .rises));
         falls = omega (arith, one-fall);
-        balance = rw (x .falls r .high, one-fall, x .falls r .counts) (omega (arith, balanced, same-falls w, first, g .falls));
+        balance = rw (x .falls r .high, one-fall) (rw (x .falls r .counts) (omega (arith, balanced, no-fall)));
       }
 
       module _ {f : Edge} (q : f ≡ x .fall r) where

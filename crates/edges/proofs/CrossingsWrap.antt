@@ -1,4 +1,4 @@
--- The loop around the two crossings wraps the phase once where it has come to 1, and never below it: so its falls are the wraps. For any width
+-- The loop around the two crossings wraps the phase once where it has come to 1, and never below it: so its falls, late or not, are the wraps. For any width
 -- from 0 to below 1 and whatever a rise and a fall do to the samples. Assumes nothing.
 use mathlib.Core.Path.{_≡_, refl, sym, _∙_, ap, subst}
 use mathlib.Core.Bool.{Bool, true, false, not}
@@ -15,17 +15,18 @@ use Rattle.block.specs.Counting.{oneIf}
 use Rattle.edges.specs.Sync.{wrapOnce}
 use Rattle.edges.specs.CrossingLoop.{Crosses}
 use Rattle.edges.specs.Private.{Crossable}
-use Rattle.edges.proofs.CrossingLoop.{looped, turnsOf, Risen, going-start, stays-high, rises-low, stop-low, stop-high, turn-on, same-phase, same-falls, below-again}
+use Rattle.edges.proofs.CrossingLoop.{looped, turnsOf, Risen, going-start, stays-high, rises-low, stop-low, stop-high, turn-on, same-phase, same-falls, below-again, one-fall}
+use Rattle.edges.proofs.Totals.{everyFall}
 
 -- from e to r the phase wraps at most once, and each wrap is a fall
 pub record Wraps (e r : Edge) : Type 0 where
   pub phase : r .phase ≡ wrapOnce (e .phase)
-  pub falls : r .crossings .falls ≡ oneIf (le one32 (e .phase))
+  pub falls : everyFall (r .crossings) ≡ oneIf (le one32 (e .phase))
 
 -- r has the phase and the falls of e
 record Same (e r : Edge) : Type 0 where
   phase : r .phase ≡ e .phase
-  falls : r .crossings .falls ≡ e .crossings .falls
+  falls : everyFall (r .crossings) ≡ everyFall (e .crossings)
 
 -- r, after the first half of a turn, lies below 1 or not, as e does
 now : {x : Crosses} {e r : Edge} {b : Bool} → Risen x e r → lt (e .phase) one32 ≡ b → lt (r .phase) one32 ≡ b
@@ -55,7 +56,7 @@ module _ (x : Crosses) {e : Edge} (h : Crossable (x .width) e) where
           subst (Wraps e) (sym (turn-on w 1 (now w l)))
           (record {
             phase = b .phase ∙ x .falls r .phase ∙ ap (λ (p : Float). p ⊖ one32) (same-phase w) ∙ rw t;
-            falls = b .falls ∙ rw (x .falls r .counts, same-falls w, h .none, t);
+            falls = b .falls ∙ one-fall (going-start h) w (now w l) ∙ rw t;
           })
 
       go : (b : Bool) → not (e .high) ≡ b → Wraps e (looped x e)

@@ -1,4 +1,5 @@
 -- The laws of crossings, without a reset and with one.
+pub mod Totals
 pub mod CrossingLoop
 pub mod CrossingsWrap
 pub mod CrossingsReset

@@ -7,7 +7,7 @@ use lib.Dec.{T}
 use lib.Ieee.{Float, binary32, fits, lt, le}
 use Rattle.floats.specs.F32.{_⊖_, zero32, one32, topSum}
 use Rattle.edges.specs.declared.Edge.{Edge}
-use Rattle.edges.specs.Counted.{noCrossings, rose, fell}
+use Rattle.edges.specs.Counted.{isLate, noCrossings, rose, fell}
 
 -- k turns of the source's `loop` at most. It breaks where a low slave has not come to the width, and where a high one has not come to 1.
 unfoldable pub turns : ℕ → Float → (Edge → Edge) → (Edge → Edge) → Edge → Edge
@@ -21,17 +21,21 @@ turns (suc k) width rise fall e =
 abbrev pub crossingLoop : Float → (Edge → Edge) → (Edge → Edge) → Edge → Edge
 crossingLoop width rise fall e = turns 2 width rise fall e
 
--- r is e after a rise, whatever that does to the samples: the phase stays, the slave is high, and one rise more is counted
+-- r is e after a rise, whatever that does to the samples: the phase stays, the slave is high, and one rise more is counted, late or not by its t
 pub record Rises (e r : Edge) : Type 0 where
+  pub t : Float
   pub phase : r .phase ≡ e .phase
   pub high : r .high ≡ true
-  pub counts : r .crossings ≡ rose (e .crossings)
+  pub reset : r .reset ≡ e .reset
+  pub counts : r .crossings ≡ rose (isLate e t) (e .crossings)
 
--- r is e after a fall: the phase has wrapped, the slave is low, and one fall more is counted
+-- r is e after a fall: the phase has wrapped, the slave is low, and one fall more is counted, likewise
 pub record Falls (e r : Edge) : Type 0 where
+  pub t : Float
   pub phase : r .phase ≡ e .phase ⊖ one32
   pub high : r .high ≡ false
-  pub counts : r .crossings ≡ fell (e .crossings)
+  pub reset : r .reset ≡ e .reset
+  pub counts : r .crossings ≡ fell (isLate e t) (e .crossings)
 
 -- what `two-turns` asks of an oscillator: the width that it rises at, a rise, and a fall
 pub record Crosses : Type 0 where

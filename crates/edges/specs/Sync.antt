@@ -1,6 +1,6 @@
 -- A hard sync reset, which super_square_oscillator.rs (lines 73 to 93) and variable_shape_oscillator.rs (lines 114 to 138) share: the master
 -- has wrapped `time` samples ago, and the slave starts anew. Assumes nothing.
-use mathlib.Core.Bool.{Bool, not, _&&_, _||_, cond}
+use mathlib.Core.Bool.{Bool, true, not, _&&_, _||_, cond}
 use lib.Ieee.{Float, le}
 use Rattle.floats.specs.F32.{_⊕_, _⊖_, _⊗_, _⊘_, one32}
 use Rattle.polyblep.specs.Polyblep.{thisBlepSample, nextBlepSample}
@@ -29,13 +29,15 @@ atResetOf slavePhase high slaveFrequency width time =
     let reached = slaveAtReset slavePhase slaveFrequency time in
     record { «slave_phase» = wrapOnce reached; transition = transitionDuringReset high width reached }
 
--- what the reset takes off, for a waveform that stood at `value`
+-- what the reset takes off, for a waveform that stood at `value`; the crossings that follow are told when it was
 abbrev pub cutEdge : Float → Float → Edge → Edge
 cutEdge value time e = record {
   phase = e .phase;
   high = e .high;
   «this_sample» = e .«this_sample» ⊖ value ⊗ thisBlepSample time;
   «next_sample» = e .«next_sample» ⊖ value ⊗ nextBlepSample time;
+  reset = true;
+  «reset_time» = time;
   crossings = e .crossings;
 }
 

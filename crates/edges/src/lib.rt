@@ -1,25 +1,37 @@
 // A sample in the making, for the oscillators that rise and fall: what it has crossed so far, and a hard sync reset of it.
 ghost use mathlib.Core.Path.{_≡_};
-ghost use Rattle.edges.specs.Counted.{startOf, risenOf, fallenOf, wrappedOf, countsOf};
+ghost use Rattle.edges.specs.Counted.{isLate, startOf, rose as roseOf, fellIf, risenOf, fallenOf, wrappedOf, countsOf};
 ghost use Rattle.edges.specs.Sync.{slaveAtReset, wrapOnce, transitionDuringReset, atResetOf, cutEdge};
 use block::Counts;
 
 pub mod triangle;
 
-// How often `high` has turned true and false by a crossing so far. Only the functions here make them: an oscillator hands them on in
-// its edge.
+// How often `high` has turned true and false by a crossing so far, those that are late apart. Only the functions here make them: an oscillator
+// hands them on in its edge.
 pub struct Crossings {
     pub rises: u32,
     pub falls: u32,
+    pub late_rises: u32,
+    pub late_falls: u32,
 }
 
-// The slave's phase and side, the sample and what the next one starts with, and the crossings so far.
+// The slave's phase and side, the sample and what the next one starts with; whether a master's wrap has reset the sample, and how many samples ago; and the
+// crossings so far.
 pub struct Edge {
     pub phase: f32,
     pub high: bool,
     pub this_sample: f32,
     pub next_sample: f32,
+    pub reset: bool,
+    pub reset_time: f32,
     pub crossings: Crossings,
+}
+
+// Whether a crossing t samples ago came after the reset. No reset is not one 0 samples ago: t is negative where a width moves.
+fn is_late(e: Edge, t: f32) -> bool
+    ensures { λ r. ⌜ r ≡ isLate e t ⌝ }
+{
+    e.reset & (t < e.reset_time)
 }
 
 // The start of a sample: what the one before left for it is `this_sample`, and nothing is crossed yet.
@@ -31,59 +43,87 @@ pub fn start(phase: f32, high: bool, this_sample: f32) -> Edge
         high,
         this_sample,
         next_sample: 0.0,
-        crossings: Crossings { rises: 0, falls: 0 },
+        reset: false,
+        reset_time: 0.0,
+        crossings: Crossings {
+            rises: 0,
+            falls: 0,
+            late_rises: 0,
+            late_falls: 0,
+        },
     }
 }
 
-// e after a rise, with the samples that it makes. Modulo 2^32 any count may be given; a sample never rises more than twice.
-pub fn risen(e: Edge, this_sample: f32, next_sample: f32) -> Edge
-    ensures { λ r. ⌜ r ≡ risenOf «this_sample» «next_sample» e ⌝ }
+// One rise more, late or not. Modulo 2^32 any count may be given; a sample never rises more than twice.
+fn rose(c: Crossings, late: bool) -> Crossings
+    ensures { λ r. ⌜ r ≡ roseOf late c ⌝ }
+{
+    Crossings {
+        rises: std::num::wrapping_add_u32(c.rises, block::one_if(!late)),
+        falls: c.falls,
+        late_rises: std::num::wrapping_add_u32(c.late_rises, block::one_if(late)),
+        late_falls: c.late_falls,
+    }
+}
+
+// One fall more where it was high, likewise.
+fn fell_if(high: bool, c: Crossings, late: bool) -> Crossings
+    ensures { λ r. ⌜ r ≡ fellIf high late c ⌝ }
+{
+    Crossings {
+        rises: c.rises,
+        falls: std::num::wrapping_add_u32(c.falls, block::one_if(high & !late)),
+        late_rises: c.late_rises,
+        late_falls: std::num::wrapping_add_u32(c.late_falls, block::one_if(high & late)),
+    }
+}
+
+// e after a rise t samples ago, with the samples that it makes.
+pub fn risen(e: Edge, t: f32, this_sample: f32, next_sample: f32) -> Edge
+    ensures { λ r. ⌜ r ≡ risenOf t «this_sample» «next_sample» e ⌝ }
 {
     Edge {
         phase: e.phase,
         high: true,
         this_sample,
         next_sample,
-        crossings: Crossings {
-            rises: std::num::wrapping_add_u32(e.crossings.rises, 1),
-            falls: e.crossings.falls,
-        },
+        reset: e.reset,
+        reset_time: e.reset_time,
+        crossings: rose(e.crossings, is_late(e, t)),
     }
 }
 
-// e after a fall, whose phase has wrapped, likewise.
-pub fn fallen(e: Edge, phase: f32, this_sample: f32, next_sample: f32) -> Edge
-    ensures { λ r. ⌜ r ≡ fallenOf phase «this_sample» «next_sample» e ⌝ }
+// e after a fall t samples ago, whose phase has wrapped, likewise.
+pub fn fallen(e: Edge, phase: f32, t: f32, this_sample: f32, next_sample: f32) -> Edge
+    ensures { λ r. ⌜ r ≡ fallenOf phase t «this_sample» «next_sample» e ⌝ }
 {
     Edge {
         phase,
         high: false,
         this_sample,
         next_sample,
-        crossings: Crossings {
-            rises: e.crossings.rises,
-            falls: std::num::wrapping_add_u32(e.crossings.falls, 1),
-        },
+        reset: e.reset,
+        reset_time: e.reset_time,
+        crossings: fell_if(true, e.crossings, is_late(e, t)),
     }
 }
 
-// e after a wrap that asks nothing of the side: only what was high has fallen.
-pub fn wrapped(e: Edge, phase: f32, this_sample: f32, next_sample: f32) -> Edge
-    ensures { λ r. ⌜ r ≡ wrappedOf phase «this_sample» «next_sample» e ⌝ }
+// e after a wrap t samples ago that asks nothing of the side: only what was high has fallen.
+pub fn wrapped(e: Edge, phase: f32, t: f32, this_sample: f32, next_sample: f32) -> Edge
+    ensures { λ r. ⌜ r ≡ wrappedOf phase t «this_sample» «next_sample» e ⌝ }
 {
     Edge {
         phase,
         high: false,
         this_sample,
         next_sample,
-        crossings: Crossings {
-            rises: e.crossings.rises,
-            falls: std::num::wrapping_add_u32(e.crossings.falls, block::one_if(e.high)),
-        },
+        reset: e.reset,
+        reset_time: e.reset_time,
+        crossings: fell_if(e.high, e.crossings, is_late(e, t)),
     }
 }
 
-// The four counts of 01 at the end of a sample.
+// The counts at the end of a sample.
 pub fn counts(cycles: u32, e: Edge, cuts: u32) -> Counts
     ensures { λ r. ⌜ r ≡ countsOf cycles (e .crossings) cuts ⌝ }
 {
@@ -92,6 +132,8 @@ pub fn counts(cycles: u32, e: Edge, cuts: u32) -> Counts
         rises: e.crossings.rises,
         falls: e.crossings.falls,
         cuts,
+        late_rises: e.crossings.late_rises,
+        late_falls: e.crossings.late_falls,
     }
 }
 
@@ -141,12 +183,14 @@ pub fn at_reset(
 }
 
 // A reset drops the waveform from `value` to 0 in between two samples, and both are smoothed. The crossing loop may still follow: phase, side and
-// crossings are left to it.
+// crossings are left to it, and it is told when the reset was.
 pub fn cut(e: Edge, value: f32, time: f32) -> Edge
     ensures { λ r. ⌜ r ≡ cutEdge value time e ⌝ }
 {
     let mut r = e;
     r.this_sample = e.this_sample - value * polyblep::this_blep_sample(time);
     r.next_sample = e.next_sample - value * polyblep::next_blep_sample(time);
+    r.reset = true;
+    r.reset_time = time;
     r
 }

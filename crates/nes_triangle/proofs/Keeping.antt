@@ -12,6 +12,7 @@ use Rattle.floats.proofs.Ranges.{Positive}
 use Rattle.rooms.specs.Steps.{allIn}
 use Rattle.rooms.proofs.RangeLaws.{frequency-step, step-frequency}
 use Rattle.floats.proofs.Bools.{and-both}
+use Rattle.block.specs.Counting.{allRises, allFalls}
 use Rattle.block.specs.Fit.{Inside}
 use Rattle.block.proofs.Plays.{one-most, Keeps}
 use Rattle.nes_triangle.specs.declared.State.{State}
@@ -28,8 +29,8 @@ pub record Law (bits : ℕ) (frequency : Float) (a b : ℕ) (t : Sampled) : Type
   pub phase : Step (t .state .phase) (t .counts .cycles) a b cycle tick cycle
   pub step : Below (t .state .step) (2 ^ bits)
   pub stored : t .state .frequency ≡ frequency
-  pub rises : t .counts .rises ≤ 1
-  pub falls : t .counts .falls ≡ 0
+  pub rises : allRises (t .counts) ≤ 1
+  pub falls : allFalls (t .counts) ≡ 0
   pub cuts : t .counts .cuts ≡ 0
 
 sample-law : (d : Depth) (s : State) (frequency : Float) (h : Ready d s frequency) → Law (h .bits) frequency (h .valid .phase .n) (h .some .n) (sampleOf d s frequency)
@@ -40,7 +41,7 @@ sample-law d s frequency h =
       phase = t .phase;
       step = record { n = steppedOf d s frequency .«next_step»; is = refl; under = t .step };
       stored = refl;
-      rises = one-most (steppedOf d s frequency .changed);
+      rises = omega (arith, one-most (steppedOf d s frequency .changed));
       falls = refl;
       cuts = refl;
     }

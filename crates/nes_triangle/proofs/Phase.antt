@@ -12,7 +12,8 @@ use Rattle.floats.specs.F32.{zero32}
 use Rattle.floats.proofs.Ticks.{tick, cycle}
 use Rattle.ranges.proofs.AllOf.{of-each}
 use Rattle.block.specs.Oscillator.{callOf}
-use Rattle.block.specs.Limits.{NeitherFallsNorCuts}
+use Rattle.block.specs.Counting.{allRises, allFalls}
+use Rattle.block.specs.Limits.{NeitherFallsNorCuts, NoneLate}
 use Rattle.block.specs.Account.{Phases32}
 use Rattle.block.specs.Fit.{Inside}
 use Rattle.block.proofs.Accounts.{OneSample}
@@ -35,7 +36,7 @@ module _ (bits : ℕ) (s : State) (steps : List Float) (x : Float) (v : Passed b
       record { a = r .0 .valid .phase .n; b = r .0 .some .n; n = p .n; first-at = r .0 .valid .phase .at; step-at = r .0 .some .at; last-at = p .at; account = p .account }
 
   -- a sample counts at most one cycle and one rise, and no fall and no cut
-  pub sample-limits : (let c = sampleAt bits s steps x .counts in (c .cycles ≤ 1) × (c .rises ≤ 1) × (c .falls ≡ 0) × (c .cuts ≡ 0))
+  pub sample-limits : (let c = sampleAt bits s steps x .counts in (c .cycles ≤ 1) × (allRises c ≤ 1) × (allFalls c ≡ 0) × (c .cuts ≡ 0))
   sample-limits = let l = law-of bits s steps v i .1 in (l .phase .once, l .rises, l .falls, l .cuts)
 
 -- a state that one call's bits accept may be refused by another's: what is valid goes by the arguments
@@ -52,6 +53,11 @@ laws = record {
 pub sample-neither : (bits : ℕ) (s : State) (steps : List Float) (x : Float) → NeitherFallsNorCuts (sampleAt bits s steps x .counts)
 unfolding sampleOf finish
 sample-neither bits s steps x = record { falls = refl; cuts = refl }
+
+-- the NES triangle has no sync: nothing is late
+pub sample-heard : (bits : ℕ) (s : State) (steps : List Float) (x : Float) → NoneLate (sampleAt bits s steps x .counts)
+unfolding sampleOf finish
+sample-heard bits s steps x = record { rises = refl; falls = refl }
 
 -- `new` and `init` are valid for every call's bits, and the state after an answered call for that call's
 pub new-valid : (bits : ℕ) → stateIn newState bits ≡ true

@@ -130,7 +130,7 @@ finish d s t g x frequency = record {
     frequency = frequency;
   };
   sample = x .«this_sample» ⊗ d .scale ⊖ one32;
-  counts = record { cycles = oneIf (t .wrap); rises = oneIf (t .changed); falls = 0; cuts = 0 };
+  counts = record { cycles = oneIf (t .wrap); rises = oneIf (t .changed); falls = 0; cuts = 0; «late_rises» = 0; «late_falls» = 0 };
 }
 
 -- one sample, lines 54 to 140

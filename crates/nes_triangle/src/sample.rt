@@ -148,6 +148,8 @@ fn finish(d: Depth, g: Gains, e: Reached, frequency: f32) -> Sampled
             rises: e.rises,
             falls: 0,
             cuts: 0,
+            late_rises: 0,
+            late_falls: 0,
         },
     }
 }

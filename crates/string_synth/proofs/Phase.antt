@@ -3,6 +3,7 @@ use mathlib.Core.Path.{_≡_, refl}
 use mathlib.Core.Bool.{true}
 use mathlib.Core.List.{List}
 use Prim.Native.Nat.{_*_, _≤_}
+use native.Mathlib.Omega.{arith}
 use lib.Dec.{lit<}
 use lib.ListN.{getD}
 use lib.Ieee.{Float, lt, le, neg, ofBits}
@@ -10,7 +11,8 @@ use Rattle.floats.specs.F32.{zero32}
 use Rattle.floats.proofs.Ticks.{tick, cycle}
 use Rattle.ranges.specs.Ranges.{allOf}
 use Rattle.block.specs.Oscillator.{callOf}
-use Rattle.block.specs.Limits.{NeitherFallsNorCuts}
+use Rattle.block.specs.Counting.{allRises, allFalls}
+use Rattle.block.specs.Limits.{NeitherFallsNorCuts, NoneLate}
 use Rattle.block.specs.Account.{Phases32}
 use Rattle.block.specs.Fit.{Inside}
 use Rattle.block.proofs.Accounts.{OneSample}
@@ -46,11 +48,16 @@ pub sample-neither : (s : State) (steps : List Float) (x : Float) → NeitherFal
 unfolding sampleOf finish
 sample-neither s steps x = record { falls = refl; cuts = refl }
 
+-- a string has no sync: nothing is late
+pub sample-heard : (s : State) (steps : List Float) (x : Float) → NoneLate (sampleAt s steps x .counts)
+unfolding sampleOf finish
+sample-heard s steps x = record { rises = refl; falls = refl }
+
 -- a sample counts at most one cycle and one rise, and no fall and no cut
 pub sample-limits : (s : State) (steps : List Float) (x : Float) → Valid s → Inside rooms steps
-    → (let c = sampleAt s steps x .counts in (c .cycles ≤ 1) × (c .rises ≤ 1) × (c .falls ≡ 0) × (c .cuts ≡ 0))
+    → (let c = sampleAt s steps x .counts in (c .cycles ≤ 1) × (allRises c ≤ 1) × (allFalls c ≡ 0) × (c .cuts ≡ 0))
 unfolding sampleOf finish
-sample-limits s steps x v i = let l = reach-law s (sawsOf steps) (stepped-of s steps v i .ready) in (l .phase .once, l .rises, refl, refl)
+sample-limits s steps x v i = let l = reach-law s (sawsOf steps) (stepped-of s steps v i .ready) in (l .phase .once, omega (arith, l .rises), refl, refl)
 
 -- `new` and `init` are valid, and so is the state after an answered call
 pub new-valid : stateIn newState ≡ true

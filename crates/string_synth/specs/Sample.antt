@@ -112,7 +112,7 @@ finish e saws held = record {
     «saw_1_gain» = saws .«saw_1_gain»;
   };
   sample = held ⊕ two32 ⊗ e .«this_sample»;
-  counts = record { cycles = e .cycles; rises = e .rises; falls = 0; cuts = 0 };
+  counts = record { cycles = e .cycles; rises = e .rises; falls = 0; cuts = 0; «late_rises» = 0; «late_falls» = 0 };
 }
 
 -- one sample, lines 107 to 150

@@ -201,6 +201,8 @@ pub(crate) fn finish(e: Reached, starts: Starts, saws: Saws, held: f32) -> Sampl
             rises: e.rises,
             falls: 0,
             cuts: 0,
+            late_rises: 0,
+            late_falls: 0,
         },
     }
 }

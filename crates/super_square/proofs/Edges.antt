@@ -14,11 +14,11 @@ use Rattle.super_square.specs.Private.{Ready}
 
 pub rises : (slaveFrequency : Float) (e : Edge) → Rises e (riseOf slaveFrequency e)
 unfolding riseOf
-rises f e = record { phase = refl; high = refl; counts = refl }
+rises f e = record { t = _; phase = refl; high = refl; reset = refl; counts = refl }
 
 pub falls : (slaveFrequency : Float) (e : Edge) → Falls e (fallOf slaveFrequency e)
 unfolding fallOf
-falls f e = record { phase = refl; high = refl; counts = refl }
+falls f e = record { t = _; phase = refl; high = refl; reset = refl; counts = refl }
 
 abbrev pub crosses : Float → Crosses
 crosses f = record { width = half32; rise = riseOf f; fall = fallOf f; rises = rises f; falls = falls f }

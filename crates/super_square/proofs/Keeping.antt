@@ -2,7 +2,7 @@
 use mathlib.Core.Path.{_≡_, refl}
 use mathlib.Core.Bool.{Bool, true, false, cond}
 use mathlib.Core.List.{List, [], _∷_}
-use Prim.Native.Nat.{ℕ, _+_, _*_, _≤_}
+use Prim.Native.Nat.{ℕ, _*_, _≤_}
 use native.Mathlib.Omega.{arith}
 use lib.ListN.{getD}
 use lib.Ieee.{Float, le}
@@ -10,7 +10,8 @@ use Rattle.floats.specs.F32.{_⊕_, _⊖_, _⊘_, zero32, one32}
 use Rattle.floats.proofs.Ticks.{tick, cycle, one-at, tick-pos, Sum}
 use Rattle.floats.proofs.PhaseSteps.{Step, wraps-at-1, phase-sum, phase-wraps, phase-stays}
 use Rattle.floats.proofs.Ranges.{Under, passed-le, failed-le, mul-le, reset-time}
-use Rattle.block.specs.Counting.{oneIf}
+use Rattle.block.specs.Counting.{allRises, allFalls}
+use Rattle.block.specs.Limits.{Balanced}
 use Rattle.rooms.specs.Steps.{allIn}
 use Rattle.rooms.proofs.RangeLaws.{frequency-step, step-frequency}
 use Rattle.floats.proofs.Bools.{and-both}
@@ -31,10 +32,10 @@ pub record Law (s : State) (masterFrequency slaveFrequency : Float) (a b : ℕ) 
   pub slave : Under (t .state .«slave_phase») cycle
   pub master-frequency : t .state .«master_frequency» ≡ masterFrequency
   pub slave-frequency : t .state .«slave_frequency» ≡ slaveFrequency
-  pub rises : t .counts .rises ≤ 2
-  pub falls : t .counts .falls ≤ 1
+  pub rises : allRises (t .counts) ≤ 2
+  pub falls : allFalls (t .counts) ≤ 1
   pub cuts : t .counts .cuts ≤ 1
-  pub balance : t .counts .rises + oneIf (s .high) ≡ t .counts .falls + t .counts .cuts + oneIf (t .state .high)
+  pub balance : Balanced (s .high) (t .counts) (t .state .high)
 
 module _ (s : State) (masterFrequency slaveFrequency : Float) (h : Ready s masterFrequency slaveFrequency) where
   sum : Sum (s .«master_phase» ⊕ masterFrequency) (h .valid .master .n) (h .master .n) (21233664 * tick) tick

@@ -23,7 +23,7 @@ level phase = cond (lt phase half32) zero32 one32
 unfoldable pub riseOf : Float → Edge → Edge
 riseOf slaveFrequency e =
     let t = (e .phase ⊖ half32) ⊘ slaveFrequency in
-    risenOf
+    risenOf t
     (e .«this_sample» ⊕ thisBlepSample t)
     (e .«next_sample» ⊕ nextBlepSample t)
     e
@@ -33,7 +33,7 @@ unfoldable pub fallOf : Float → Edge → Edge
 fallOf slaveFrequency e =
     let phase' = e .phase ⊖ one32 in
     let t = phase' ⊘ slaveFrequency in
-    fallenOf phase'
+    fallenOf phase' t
     (e .«this_sample» ⊖ thisBlepSample t)
     (e .«next_sample» ⊖ nextBlepSample t)
     e

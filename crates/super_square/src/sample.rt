@@ -28,7 +28,7 @@ fn rise(e: Edge, slave_frequency: f32) -> Edge
     let t = (e.phase - 0.5) / slave_frequency;
     let this_sample = e.this_sample + polyblep::this_blep_sample(t);
     let next_sample = e.next_sample + polyblep::next_blep_sample(t);
-    edges::risen(e, this_sample, next_sample)
+    edges::risen(e, t, this_sample, next_sample)
 }
 
 // Down through 1, where the phase wraps, lines 113 to 117: t is taken from the wrapped phase.
@@ -39,7 +39,7 @@ fn fall(e: Edge, slave_frequency: f32) -> Edge
     let t = phase / slave_frequency;
     let this_sample = e.this_sample - polyblep::this_blep_sample(t);
     let next_sample = e.next_sample - polyblep::next_blep_sample(t);
-    edges::fallen(e, phase, this_sample, next_sample)
+    edges::fallen(e, phase, t, this_sample, next_sample)
 }
 
 // The source's loop around the two crossings, lines 98 to 119. It ends because a step is less than a cycle: a low slave may rise, fall and rise

@@ -3,7 +3,7 @@
 use mathlib.Core.Path.{_≡_, refl}
 use mathlib.Core.Bool.{Bool, true, false, not, _&&_, cond}
 use mathlib.Core.List.{List, [], _∷_}
-use Prim.Native.Nat.{ℕ, _+_, _*_, _%_, _^_, _≤_}
+use Prim.Native.Nat.{ℕ, _+_, _*_, _≤_}
 use native.Mathlib.Omega.{arith}
 use borrow.Author.Tests.{not-true}
 use lib.ListN.{getD}
@@ -17,7 +17,8 @@ use Rattle.block.specs.Limits.{Balanced}
 use Rattle.rooms.specs.Steps.{allIn}
 use Rattle.floats.proofs.Bools.{and-both}
 use Rattle.block.specs.Fit.{Inside}
-use Rattle.block.specs.Counting.{oneIf}
+use Rattle.block.specs.Counting.{oneIf, allRises, allFalls}
+use Rattle.edges.specs.Counted.{oneMoreIf}
 use Rattle.block.proofs.Plays.{one-most, Keeps}
 use Rattle.rooms.proofs.RangeLaws.{frequency-step, step-frequency, width-unit}
 use Rattle.edges.specs.declared.Edge.{Edge}
@@ -46,13 +47,13 @@ pub record Stored (frequency pw waveshape : Float) (s : State) : Type 0 where
 pub record Law (s : State) (frequency pw waveshape : Float) (a b : ℕ) (t : Sampled) : Type 0 where
   pub phase : Step (t .state .phase) (t .counts .cycles) a b cycle tick (reach (t .state .high))
   pub stored : Stored frequency pw waveshape (t .state)
-  pub rises : t .counts .rises ≤ 1
-  pub falls : t .counts .falls ≤ 1
+  pub rises : allRises (t .counts) ≤ 1
+  pub falls : allFalls (t .counts) ≤ 1
   pub cuts : t .counts .cuts ≡ 0
   pub balance : Balanced (s .high) (t .counts) (t .state .high)
 
--- what a wrap counts: a fall where the phase was high
-one-fall : (high : Bool) → (0 + oneIf high) % 2 ^ 32 ≡ oneIf high
+-- what a wrap counts: a fall where the phase was high, and none of them late
+one-fall : (high : Bool) → oneMoreIf (high && true) 0 + oneMoreIf (high && false) 0 ≡ oneIf high
 one-fall true = refl
 one-fall false = refl
 

@@ -9,6 +9,7 @@ use lib.Ieee.{Float, lt, le, neg, ofBits}
 use Rattle.floats.specs.F32.{zero32}
 use Rattle.floats.proofs.Ticks.{tick, cycle}
 use Rattle.ranges.specs.Ranges.{allOf}
+use Rattle.block.specs.Counting.{allRises, allFalls}
 use Rattle.block.specs.Oscillator.{callOf}
 use Rattle.block.specs.Limits.{Balanced}
 use Rattle.block.specs.Account.{Phases32}
@@ -32,7 +33,7 @@ module _ (s : State) (steps : List Float) (x : Float) (v : Valid s) (i : Inside 
       record { a = r .0 .valid .phase .n; b = r .0 .step .n; n = p .n; first-at = r .0 .valid .phase .at; step-at = r .0 .step .at; last-at = p .at; account = p .account }
 
   -- a saw's sample counts no second rise, and no cut
-  pub sample-limits : (let c = sampleAt s steps x .counts in (c .cycles ≤ 1) × (c .rises ≤ 1) × (c .falls ≤ 1) × (c .cuts ≡ 0))
+  pub sample-limits : (let c = sampleAt s steps x .counts in (c .cycles ≤ 1) × (allRises c ≤ 1) × (allFalls c ≤ 1) × (c .cuts ≡ 0))
   sample-limits = let l = law-of s steps v i .1 in (l .phase .once, l .rises, l .falls, l .cuts)
 
   -- "rises - falls - cuts equals `high` after less `high` before", of one sample

@@ -44,7 +44,7 @@ riseOf w frequency previousPw e =
     let step = triangleStep (w .«slope_up») (w .«slope_down») frequency (w .«triangle_amount») in
     let notch = (notchDepth ⊕ one32 ⊖ w .pw) ⊗ w .«notch_amount» in
     let t = riseTime (e .phase) (w .pw) previousPw frequency in
-    risenOf
+    risenOf t
     (e .«this_sample» ⊕ notch ⊗ thisBlepSample t ⊖ step ⊗ thisIntegratedBlepSample t)
     (e .«next_sample» ⊕ notch ⊗ nextBlepSample t ⊖ step ⊗ nextIntegratedBlepSample t)
     e
@@ -56,7 +56,7 @@ wrapOf w frequency e =
     let step = triangleStep (w .«slope_up») (w .«slope_down») frequency (w .«triangle_amount») in
     let notch = (notchDepth ⊕ one32) ⊗ w .«notch_amount» in
     let t = phase' ⊘ frequency in
-    wrappedOf phase'
+    wrappedOf phase' t
     (e .«this_sample» ⊖ notch ⊗ thisBlepSample t ⊕ step ⊗ thisIntegratedBlepSample t)
     (e .«next_sample» ⊖ notch ⊗ nextBlepSample t ⊕ step ⊗ nextIntegratedBlepSample t)
     e

@@ -70,7 +70,7 @@ fn rise(e: Edge, w: Wave, frequency: f32, previous_pw: f32) -> Edge
         - step * polyblep::this_integrated_blep_sample(t);
     let next_sample = e.next_sample + notch * polyblep::next_blep_sample(t)
         - step * polyblep::next_integrated_blep_sample(t);
-    edges::risen(e, this_sample, next_sample)
+    edges::risen(e, t, this_sample, next_sample)
 }
 
 // Down through 1, where the phase wraps, lines 86 to 94. The test lets a low phase in where the width is above 1 or no number, as none in its room is: that
@@ -86,7 +86,7 @@ fn wrap(e: Edge, w: Wave, frequency: f32) -> Edge
         + step * polyblep::this_integrated_blep_sample(t);
     let next_sample = e.next_sample - notch * polyblep::next_blep_sample(t)
         + step * polyblep::next_integrated_blep_sample(t);
-    edges::wrapped(e, phase, this_sample, next_sample)
+    edges::wrapped(e, phase, t, this_sample, next_sample)
 }
 
 // The step, lines 63, 64 and 74.

@@ -13,11 +13,11 @@ use Rattle.variable_shape.specs.Private.{Ready}
 
 pub rises : (w : Waveform) (e : Edge) → Rises e (riseOf w e)
 unfolding riseOf
-rises w e = record { phase = refl; high = refl; counts = refl }
+rises w e = record { t = _; phase = refl; high = refl; reset = refl; counts = refl }
 
 pub falls : (w : Waveform) (e : Edge) → Falls e (fallOf w e)
 unfolding fallOf
-falls w e = record { phase = refl; high = refl; counts = refl }
+falls w e = record { t = _; phase = refl; high = refl; reset = refl; counts = refl }
 
 abbrev pub crosses : Waveform → Crosses
 crosses w = record { width = w .pw; rise = riseOf w; fall = fallOf w; rises = rises w; falls = falls w }

@@ -15,6 +15,7 @@ use Rattle.floats.proofs.Ranges.{Under, passed-le, failed-le, mul-le, reset-tim
 use Rattle.edges.specs.declared.Edge.{Edge}
 use Rattle.rooms.specs.declared.Room.the-variants.{Unused}
 use Rattle.ranges.specs.Ranges.{modulationOrGainIn}
+use Rattle.block.specs.Counting.{allRises, allFalls}
 use Rattle.block.specs.Limits.{Balanced}
 use Rattle.block.specs.Fit.{Inside}
 use Rattle.block.proofs.Plays.{one-most, Keeps}
@@ -23,6 +24,7 @@ use Rattle.rooms.proofs.RangeLaws.{under-phase, frequency-step, step-frequency,
 use Rattle.block.proofs.InsideAt.{inside-at}
 use Rattle.block.proofs.Accounts.{OneSample}
 use Rattle.edges.specs.Private.{Crossable}
+use Rattle.edges.proofs.Totals.{everyFall, loop-heard}
 use Rattle.edges.proofs.CrossingLoop.{Counted, crossed-of}
 use Rattle.edges.proofs.CrossingsWrap.{loop-wraps}
 use Rattle.edges.proofs.CrossingsReset.{reset-counted}
@@ -42,8 +44,8 @@ pub record Law (sync : Bool) (s : State) (steps : Steps) (t : Sampled) : Type 0 
   pub account : OneSample cycle tick (countedPhase sync s) (cond sync (steps .«master_frequency») (steps .«slave_frequency»)) (t .counts .cycles) (countedPhase sync (t .state))
   pub valid : Valid (t .state)
   pub cycles : t .counts .cycles ≤ 1
-  pub rises : t .counts .rises ≤ 2
-  pub falls : t .counts .falls ≤ 1
+  pub rises : allRises (t .counts) ≤ 2
+  pub falls : allFalls (t .counts) ≤ 1
   pub cuts : t .counts .cuts ≤ 1
   pub balance : Balanced (s .high) (t .counts) (t .state .high)
 
@@ -86,10 +88,14 @@ module _ (s : State) (steps : Steps) (h : Ready s steps) where
   starts = edge-crossable h
 
   -- ---- without a reset
+  -- none of its falls is late
+  all-heard : crossed wave start .crossings .falls ≡ everyFall (crossed wave start .crossings)
+  all-heard = omega (arith, loop-heard (crosses wave) 2 start (record { free = refl; rises = refl; falls = refl }) .falls)
+
   slave-step : Step (crossed wave start .phase) (crossed wave start .crossings .falls) (h .valid .slave .n) (h .slave .n) cycle tick cycle
   slave-step =
       let w = loop-wraps (crosses wave) starts in
-      rw (w .phase, w .falls) (phase-step (h .valid .slave .at) (h .slave .at) (h .valid .slave .under) (h .slave .most))
+      rw (all-heard, w .phase, w .falls) (phase-step (h .valid .slave .at) (h .slave .at) (h .valid .slave .under) (h .slave .most))
 
   free-law : (phaseOutput : Bool) → Law false s steps (plainSample false phaseOutput s steps (s .«master_phase»))
   unfolding plainSample finish
@@ -98,7 +104,7 @@ module _ (s : State) (steps : Steps) (h : Ready s steps) where
       record {
         account = accounts (h .valid .slave .at) (h .slave .at) slave-step;
         valid = after-valid _ _ _ _ (h .valid .master) (c .phase);
-        cycles = c .counted .falls;
+        cycles = omega (arith, c .counted .falls);
         rises = c .counted .rises;
         falls = c .counted .falls;
         cuts = omega arith;

@@ -25,7 +25,7 @@ unfoldable pub riseOf : Waveform → Edge → Edge
 riseOf w e =
     let t = riseTime (e .phase) (w .pw) (w .«previous_pw») (w .«slave_frequency») in
     let step = triangleStep (w .«slope_up») (w .«slope_down») (w .«slave_frequency») (w .«triangle_amount») in
-    risenOf
+    risenOf t
     (e .«this_sample» ⊕ w .«square_amount» ⊗ thisBlepSample t ⊖ step ⊗ thisIntegratedBlepSample t)
     (e .«next_sample» ⊕ w .«square_amount» ⊗ nextBlepSample t ⊖ step ⊗ nextIntegratedBlepSample t)
     e
@@ -36,7 +36,7 @@ fallOf w e =
     let phase' = e .phase ⊖ one32 in
     let t = phase' ⊘ w .«slave_frequency» in
     let step = triangleStep (w .«slope_up») (w .«slope_down») (w .«slave_frequency») (w .«triangle_amount») in
-    fallenOf phase'
+    fallenOf phase' t
     (e .«this_sample» ⊖ (one32 ⊖ w .«triangle_amount») ⊗ thisBlepSample t ⊕ step ⊗ thisIntegratedBlepSample t)
     (e .«next_sample» ⊖ (one32 ⊖ w .«triangle_amount») ⊗ nextBlepSample t ⊕ step ⊗ nextIntegratedBlepSample t)
     e

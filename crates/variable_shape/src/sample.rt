@@ -52,7 +52,7 @@ fn rise(e: Edge, w: Waveform) -> Edge
         - step * polyblep::this_integrated_blep_sample(t);
     let next_sample = e.next_sample + w.square_amount * polyblep::next_blep_sample(t)
         - step * polyblep::next_integrated_blep_sample(t);
-    edges::risen(e, this_sample, next_sample)
+    edges::risen(e, t, this_sample, next_sample)
 }
 
 // Down through 1, where the phase wraps, lines 164 to 173: t is taken from the wrapped phase, and does not know of the width.
@@ -71,7 +71,7 @@ fn fall(e: Edge, w: Waveform) -> Edge
         + step * polyblep::this_integrated_blep_sample(t);
     let next_sample = e.next_sample - (1.0 - w.triangle_amount) * polyblep::next_blep_sample(t)
         + step * polyblep::next_integrated_blep_sample(t);
-    edges::fallen(e, phase, this_sample, next_sample)
+    edges::fallen(e, phase, t, this_sample, next_sample)
 }
 
 // The source's loop around the two crossings, lines 144 to 175. It ends because a step is less than a cycle: a low slave may rise, fall and rise

@@ -4,4 +4,4 @@ use Rattle.edges.proofs.fallen.Statement.{statement}
 use Rattle.edges.proofs.fallen.Tie as tie
 
 pub fallen-spec : {M : Type 1} → statement M
-fallen-spec = tie.close (tie.spec (λ c κs. search needs) (λ c. rw (c .wrapping-add-u32 .ensures)))
+fallen-spec = tie.close (tie.spec (λ c κs. search needs) (λ c κs. search needs) (λ c. rw (c .fell-if .ensures, c .before .is-late .ensures)))
