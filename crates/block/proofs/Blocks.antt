@@ -2,7 +2,7 @@
 use mathlib.Core.Path.{_≡_, refl, sym, _∙_, subst}
 use mathlib.Core.Bool.{Bool}
 use mathlib.Core.List.{List, [], _∷_}
-use Prim.Native.Nat.{ℕ, zero, suc, _+_}
+use Prim.Native.Nat.{ℕ, zero, suc, _+_, _≤_}
 use native.Mathlib.Nat.{add-zero, add-assoc}
 use native.Mathlib.Omega.{arith}
 use lib.ListN.{length, getD}
@@ -17,7 +17,7 @@ use Rattle.block.specs.Counting.{plus, total}
 use Rattle.block.specs.Play.{Sample, Heard, play}
 use Rattle.block.specs.Checks.{InOrder, AllPass}
 use Rattle.block.specs.Oscillator.{Oscillator, checksOf, sampleCounts, column}
-use Rattle.block.specs.Limits.{Limited, EachLimited, Few, Balanced, NeitherFallsNorCuts}
+use Rattle.block.specs.Limits.{Limited, EachLimited, Few, Balanced}
 use Rattle.block.specs.Account.{Phases32}
 use Rattle.block.specs.Fit.{Inside}
 use Rattle.block.proofs.Plays.{few-more, Keeps, nowhere-first}
@@ -41,16 +41,20 @@ play-total make [] xs s c = refl
 play-total make (steps ∷ rest) [] s c = refl
 play-total make (steps ∷ rest) (x ∷ xs) s c = let t = make s steps x in play-total make rest xs (t .state) (plus c (t .counts))
 
--- samples that never fall and are never cut
-pub play-neither : {S : Type 0} (make : S → List Float → Float → Sample S) → ((s : S) (steps : List Float) (x : Float) → NeitherFallsNorCuts (make s steps x .counts))
-    → (steps : List (List Float)) (xs : List Float) (s : S) (c : Counts) → NeitherFallsNorCuts c → NeitherFallsNorCuts (play make s c steps xs .counts)
+-- what holds of every sample's counts, and of a sum where it holds of both, holds of the block's
+pub play-every : {S : Type 0} (P : Counts → Type 0) → ((c d : Counts) → P c → P d → P (plus c d)) → (make : S → List Float → Float → Sample S)
+    → ((s : S) (steps : List Float) (x : Float) → P (make s steps x .counts)) → (steps : List (List Float)) (xs : List Float) (s : S) (c : Counts) → P c → P (play make s c steps xs .counts)
 unfolding play
-play-neither make one [] xs s c h = h
-play-neither make one (steps ∷ rest) [] s c h = h
-play-neither make one (steps ∷ rest) (x ∷ xs) s c h = let t = one s steps x in play-neither make one rest xs _ _ (record { falls = omega (arith, h .falls, t .falls); cuts = rw (h .cuts, t .cuts) })
+play-every P more make one [] xs s c h = h
+play-every P more make one (steps ∷ rest) [] s c h = h
+play-every P more make one (steps ∷ rest) (x ∷ xs) s c h = let t = make s steps x in play-every P more make one rest xs (t .state) (plus c (t .counts)) (more c (t .counts) h (one s steps x))
 
 limited : {c : Counts} → Few 1 c → Limited c
 limited f = record { cycles = f .cycles; falls = f .falls; rises = f .rises }
+
+-- the limits are on all crossings: late ones count among the two rises and the one fall
+pub late-limited : (c : Counts) → Limited c → (c .falls + c .«late_falls» ≤ 1) × (c .rises + c .«late_rises» ≤ 2)
+late-limited c l = (omega (arith, l .falls), omega (arith, l .rises))
 
 module _ {S A : Type 0} {o : Oscillator S A} {Valid : A → S → Type 0} {w e : ℕ} (l : Laws o Valid w e) (a : A) where
   -- m samples are to come, from the state s, over xs

@@ -7,6 +7,7 @@ pub mod Ways
 pub mod Accounts
 pub mod Blocks
 pub mod Oscillators
+pub mod AsHeard
 pub mod Lengths
 pub mod Contracts
 pub mod Tight

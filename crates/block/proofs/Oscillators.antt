@@ -3,27 +3,29 @@ use mathlib.Core.Path.{_≡_, refl, sym, ap, _∙_, subst}
 use mathlib.Core.Bool.{Bool, false, cond}
 use mathlib.Core.Logic.{_⊎_, ⊎-elim, inl, inr}
 use mathlib.Core.List.{List, [], _∷_}
-use Prim.Native.Nat.{ℕ, _<_, zero-le}
+use Prim.Native.Nat.{ℕ, _+_, _<_, zero-le}
 use native.Mathlib.Nat.{zero-add}
-use borrow.Author.Tests.{lt-leb}
+use native.Mathlib.Omega.{arith}
+use borrow.Author.Tests.{lt-leb, leb-true}
 use lib.Dec.{eqb}
 use lib.ListN.{length, getD}
 use lib.Ieee.{Float}
 use Rattle.floats.specs.F32.{zero32}
 use Rattle.rooms.specs.declared.Found.the-variants.{Nowhere}
 use Rattle.rooms.specs.Steps.{stepsOf, firstOutside}
-use Rattle.block.specs.Counting.{noCounts, total}
+use Rattle.block.specs.declared.Counts.{Counts}
+use Rattle.block.specs.Counting.{noCounts, plus, total, late}
 use Rattle.block.specs.Play.{play}
 use Rattle.block.specs.Calls.{Call, refusal, done}
 use Rattle.block.specs.Checks.{AllPass, here}
 use Rattle.block.specs.Oscillator.{Oscillator, checksOf, callOf, stepsIn, heardOf, countsOf, column, usedOf, chainOf, Way, refused, drifted, answered}
-use Rattle.block.specs.Limits.{EachLimited, Few, Balanced, NeitherFallsNorCuts}
+use Rattle.block.specs.Limits.{EachLimited, Few, Balanced, NeitherFallsNorCuts, NoneLate}
 use Rattle.block.specs.Account.{Accounted, Phases32}
 use Rattle.block.specs.Fit.{Inside}
-use Rattle.block.proofs.Plays.{few-none, few-most}
+use Rattle.block.proofs.Plays.{few-none, few-most, late-fits}
 use Rattle.block.proofs.Accounts.{Told, stood, told-accounted, told-join, steps-one, steps-accounted}
 use Rattle.block.proofs.Ways.{not-done, refused-by, goes, way, by-ways}
-use Rattle.block.proofs.Blocks.{Laws, play-total, play-neither, Coming, block-limited, block-few, block-balanced, block-told}
+use Rattle.block.proofs.Blocks.{Laws, play-total, play-every, Coming, block-limited, block-few, block-balanced, block-told}
 
 module _ {S A : Type 0} (o : Oscillator S A) (s : S) (a : A) where
   -- answered, or a refusal: the state and the buffer as given, and nothing counted
@@ -84,6 +86,12 @@ module _ {S A : Type 0} {o : Oscillator S A} {Valid : A → S → Type 0} {w e :
         (λ p h.
         subst (λ (n : ℕ). Few n (heardOf o s a .counts)) (zero-add (length (o .buffer a))) (block-few l a (length (o .buffer a)) 0 (o .moving s a) (o .buffer a) s noCounts (coming p h) few-none))
 
+    -- so few that the fifth number is the sum of both
+    pub late-whole : late (callOf o s a .counts) ≡ callOf o s a .counts .«late_rises» + callOf o s a .counts .«late_falls»
+    late-whole =
+        ways s a (λ (c : Call S). Few (length (o .buffer a)) (c .counts) → late (c .counts) ≡ c .counts .«late_rises» + c .counts .«late_falls») (λ number index h k. refl)
+        (λ p h k. late-fits (omega (arith, leb-true (length (o .buffer a)) 4096 (p .0))) k) call-few
+
     pub call-balanced : (high : S → Bool)
         → ((s : S) (steps : List Float) (x : Float) → Valid a s → Inside (o .rooms a) steps → Balanced (high s) (o .sample a s steps x .counts) (high (o .sample a s steps x .state)))
         → Balanced (high s) (callOf o s a .counts) (high (callOf o s a .state))
@@ -120,8 +128,25 @@ module _ {S A : Type 0} {o : Oscillator S A} {Valid : A → S → Type 0} {w e :
       → (let t = o .sample a s steps x in Accounted w e (o .phase s) (t .counts .cycles) (o .phase (t .state)) (getD steps (o .phase-step) zero32 ∷ []))
   sample-accounted a s steps x v i = steps-accounted (steps-one (l .one a s steps x v i))
 
-  -- an oscillator whose samples never fall and are never cut
+-- what holds of every sample's counts holds of every call's
+module _ {S A : Type 0} (o : Oscillator S A) where
+  call-every : (P : Counts → Type 0) → P noCounts → ((c d : Counts) → P c → P d → P (plus c d)) → ((a : A) (s : S) (steps : List Float) (x : Float) → P (o .sample a s steps x .counts))
+      → (s : S) (a : A) → P (callOf o s a .counts)
+  call-every P none more one s a = go (way o s a)
+    where
+      go : {c : Call S} → Way o s a c → P (c .counts)
+      go (refused f) = none
+      go (drifted p h) = none
+      go (answered p h) = play-every P more (o .sample a) (one a) (stepsIn o s a) (o .buffer a) s noCounts none
+
+  -- samples that never fall and are never cut
   pub call-neither : ((a : A) (s : S) (steps : List Float) (x : Float) → NeitherFallsNorCuts (o .sample a s steps x .counts)) → (s : S) (a : A) → NeitherFallsNorCuts (callOf o s a .counts)
-  call-neither one s a =
-      ways s a (λ (c : Call S). NeitherFallsNorCuts (c .counts)) (λ number index h. record { falls = refl; cuts = refl })
-      (λ p h. play-neither (o .sample a) (one a) (stepsIn o s a) (o .buffer a) s noCounts (record { falls = refl; cuts = refl }))
+  call-neither =
+      call-every NeitherFallsNorCuts (record { falls = refl; cuts = refl })
+      (λ c d h k. record { falls = omega (arith, h .falls, k .falls); cuts = omega (arith, h .cuts, k .cuts) })
+
+  -- and that cross nothing late
+  pub call-none-late : ((a : A) (s : S) (steps : List Float) (x : Float) → NoneLate (o .sample a s steps x .counts)) → (s : S) (a : A) → NoneLate (callOf o s a .counts)
+  call-none-late =
+      call-every NoneLate (record { rises = refl; falls = refl })
+      (λ c d h k. record { rises = omega (arith, h .rises, k .rises); falls = omega (arith, h .falls, k .falls) })

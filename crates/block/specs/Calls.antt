@@ -10,7 +10,7 @@ use Rattle.rooms.specs.declared.Room.{Room}
 use Rattle.rooms.specs.declared.Found.{Found}
 use Rattle.rooms.specs.declared.Found.the-variants.{Outside, Nowhere}
 use Rattle.block.specs.Answers.{numberOf, indexOf}
-use Rattle.block.specs.Counting.{noCounts}
+use Rattle.block.specs.Counting.{noCounts, asHeard}
 use Rattle.rooms.specs.Steps.{stepsOf, firstOutside}
 use Rattle.block.specs.Play.{Sample, Heard, play}
 
@@ -29,6 +29,10 @@ gave answer s counts xs = record { number = numberOf answer; index = indexOf ans
 -- a refusal gives the state back, counts nothing and touches no sample
 abbrev pub refusal : {S : Type 0} → ℕ → ℕ → S → List Float → Call S
 refusal number index s xs = record { number = number; index = index; state = s; counts = noCounts; samples = xs }
+
+-- a call with every crossing counted as heard, late or not, as 01 did
+abbrev pub callAsHeard : {S : Type 0} → Call S → Call S
+callAsHeard c = record { number = c .number; index = c .index; state = c .state; counts = asHeard (c .counts); samples = c .samples }
 
 -- an answered call: Done, with what was heard
 abbrev pub done : {S : Type 0} → Heard S → Call S

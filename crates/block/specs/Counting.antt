@@ -44,6 +44,10 @@ allRises c = c .rises + c .«late_rises»
 abbrev pub allFalls : Counts → ℕ
 allFalls c = c .falls + c .«late_falls»
 
+-- 02 (iii): "01 counts every crossing as heard": c with the late ones added back
+abbrev pub asHeard : Counts → Counts
+asHeard c = record { cycles = c .cycles; rises = allRises c; falls = allFalls c; cuts = c .cuts; «late_rises» = 0; «late_falls» = 0 }
+
 -- 02 (iii): "Late ones go to a fifth number", rises and falls together. 32 bits hold it: a call has 3 for each of its samples at most (`late-whole` in proofs/Oscillators).
 abbrev pub late : Counts → ℕ
 late c = (c .«late_rises» + c .«late_falls») % 2 ^ 32

@@ -6,4 +6,5 @@ pub mod Places
 pub mod Calls
 pub mod Courses
 pub mod Phase
+pub mod Free
 pub mod Tight

@@ -65,7 +65,7 @@ pub classic-balance : Balance classicOscillator (λ s. s .high)
 classic-balance s f a = call-balanced Classic.laws s f a (λ q. q .high) (Classic.sample-balanced (a .shape))
 
 pub nes-triangle-neither : NoFallsNorCuts nesTriangle
-nes-triangle-neither = call-neither Nes.laws (λ a. Nes.sample-neither (a .bits))
+nes-triangle-neither = call-neither nesTriangle (λ a. Nes.sample-neither (a .bits))
 
 pub string-synth-neither : NoFallsNorCuts stringSynth
-string-synth-neither = call-neither String.laws (λ a. String.sample-neither)
+string-synth-neither = call-neither stringSynth (λ a. String.sample-neither)

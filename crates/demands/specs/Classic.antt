@@ -10,6 +10,7 @@ use Rattle.rooms.specs.declared.Room.the-variants.{Frequency}
 use Rattle.rooms.specs.declared.Found.the-variants.{Outside}
 use Rattle.rooms.specs.Steps.{stepsOf, firstOutside}
 use Rattle.block.specs.declared.Counts.{Counts}
+use Rattle.block.specs.Counting.{allRises, allFalls}
 use Rattle.classic.specs.declared.State.{State}
 use Rattle.classic.specs.declared.OscillatorShape.{OscillatorShape}
 use Rattle.classic.specs.Targets.{frequencyTarget}
@@ -21,8 +22,8 @@ EachCall shape P = (s : State) (frequency pw : Float) (xs : List Float) → (let
 
 -- of ImpulseTrain and Saw, which do not look at `high`: it stays, and neither rises nor falls are counted
 pub record NoSides (s after : State) (c : Counts) : Type 0 where
-  pub rises : c .rises ≡ 0
-  pub falls : c .falls ≡ 0
+  pub rises : allRises c ≡ 0
+  pub falls : allFalls c ≡ 0
   pub high : after .high ≡ s .high
 
 -- 02 (i): "`Triangle` and `SquareTriangle` don't step the pulse width": the state's is kept as it is

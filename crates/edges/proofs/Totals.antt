@@ -50,20 +50,20 @@ turns-keep P width rise fall up down (suc k) e p = first (λ r q. turns-keep P w
     first more false = second more (cond (e .high) e (rise e)) (risen (e .high)) (lt (cond (e .high) e (rise e) .phase) one32)
 
 -- no reset, and nothing late
-pub record Heard (e : Edge) : Type 0 where
+pub record NoReset (e : Edge) : Type 0 where
   pub free : e .reset ≡ false
   pub rises : e .crossings .«late_rises» ≡ 0
   pub falls : e .crossings .«late_falls» ≡ 0
 
-pub loop-heard : (x : Crosses) (k : ℕ) (e : Edge) → Heard e → Heard (turns k (x .width) (x .rise) (x .fall) e)
-loop-heard x k e h = turns-keep Heard (x .width) (x .rise) (x .fall) up down k e h
+pub loop-none-late : (x : Crosses) (k : ℕ) (e : Edge) → NoReset e → NoReset (turns k (x .width) (x .rise) (x .fall) e)
+loop-none-late x k e h = turns-keep NoReset (x .width) (x .rise) (x .fall) up down k e h
   where
-    up : (e : Edge) → Heard e → Heard (x .rise e)
+    up : (e : Edge) → NoReset e → NoReset (x .rise e)
     up e h =
         let r = x .rises e in
         record { free = rw (r .reset, h .free); rises = rw (r .counts, h .free, h .rises); falls = rw (r .counts, h .falls) }
 
-    down : (e : Edge) → Heard e → Heard (x .fall e)
+    down : (e : Edge) → NoReset e → NoReset (x .fall e)
     down e h =
         let r = x .falls e in
         record { free = rw (r .reset, h .free); rises = rw (r .counts, h .rises); falls = rw (r .counts, h .free, h .falls) }

@@ -41,7 +41,7 @@ wordsOf s =
     ∷ toBits binary32 (s .«impulse_train_gain»)
     ∷ []
 
--- from a state's words, the frequency's step and the width's: the sample, the words of the state after it, and cycles, rises, falls and cuts
+-- from a state's words, the frequency's step and the width's: the sample, the words of the state after it, and cycles, rises, falls, cuts and late
 abbrev pub sampleFigure : OscillatorShape → List ℕ → List ℕ
 sampleFigure shape inputs =
     let t = sampleOf shape (stateOf inputs) (float inputs 9) (float inputs 10) in

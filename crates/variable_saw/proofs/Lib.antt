@@ -4,4 +4,5 @@ pub mod Keeping
 pub mod Calls
 pub mod Courses
 pub mod Phase
+pub mod In01
 pub mod Tight

@@ -24,7 +24,6 @@ use Rattle.rooms.proofs.RangeLaws.{under-phase, frequency-step, step-frequency,
 use Rattle.block.proofs.InsideAt.{inside-at}
 use Rattle.block.proofs.Accounts.{OneSample}
 use Rattle.edges.specs.Private.{Crossable}
-use Rattle.edges.proofs.Totals.{everyFall, loop-heard}
 use Rattle.edges.proofs.CrossingLoop.{Counted, crossed-of}
 use Rattle.edges.proofs.CrossingsWrap.{loop-wraps}
 use Rattle.edges.proofs.CrossingsReset.{reset-counted}
@@ -38,6 +37,7 @@ use Rattle.variable_shape.specs.Block.{stateIn, rooms, countedPhase}
 use Rattle.variable_shape.specs.Private.{Valid, Ready}
 use Rattle.variable_shape.proofs.Calls.{modulation-in}
 use Rattle.variable_shape.proofs.Edges.{crosses, edge-crossable}
+use Rattle.variable_shape.proofs.Free.{free-falls}
 
 -- what one sample does
 pub record Law (sync : Bool) (s : State) (steps : Steps) (t : Sampled) : Type 0 where
@@ -88,14 +88,10 @@ module _ (s : State) (steps : Steps) (h : Ready s steps) where
   starts = edge-crossable h
 
   -- ---- without a reset
-  -- none of its falls is late
-  all-heard : crossed wave start .crossings .falls ≡ everyFall (crossed wave start .crossings)
-  all-heard = omega (arith, loop-heard (crosses wave) 2 start (record { free = refl; rises = refl; falls = refl }) .falls)
-
   slave-step : Step (crossed wave start .phase) (crossed wave start .crossings .falls) (h .valid .slave .n) (h .slave .n) cycle tick cycle
   slave-step =
       let w = loop-wraps (crosses wave) starts in
-      rw (all-heard, w .phase, w .falls) (phase-step (h .valid .slave .at) (h .slave .at) (h .valid .slave .under) (h .slave .most))
+      rw (free-falls wave s (steps .«slave_frequency»), w .phase, w .falls) (phase-step (h .valid .slave .at) (h .slave .at) (h .valid .slave .under) (h .slave .most))
 
   free-law : (phaseOutput : Bool) → Law false s steps (plainSample false phaseOutput s steps (s .«master_phase»))
   unfolding plainSample finish
