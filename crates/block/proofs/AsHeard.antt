@@ -64,7 +64,7 @@ module _ {S : Type 0} (make old : S → List Float → Float → Sample S) (same
       rw (same s steps x, plus-as-heard c (t .counts), play-as-heard rest xs (t .state) (plus c (t .counts)))
 
 module _ {S A : Type 0} (o : Oscillator S A) (old : A → S → List Float → Float → Sample S)
-  (same : (a : A) (s : S) (steps : List Float) (x : Float) → old a s steps x ≡ sampleAsHeard (o .sample a s steps x)) where
+    (same : (a : A) (s : S) (steps : List Float) (x : Float) → old a s steps x ≡ sampleAsHeard (o .sample a s steps x)) where
   pub call-as-heard : (s : S) (a : A) → callOf (withSample o old) s a ≡ callAsHeard (callOf o s a)
   call-as-heard s a = go (way o s a)
     where
