@@ -10,7 +10,7 @@ include!("original.rs");
 
 const RECORD: usize = 64;
 const MOST_RECORDS: usize = 1024;
-const ZEROS: &[u8] = b" 0 0 0 0 0 0\n";
+const ZEROS: &[u8] = b" 0 0 0 0 0 0 0\n";
 /// The digits of an index and the rest of its line.
 const LINE: usize = 4 + ZEROS.len();
 
@@ -133,7 +133,7 @@ fn fail(line: &[u8]) -> i32 {
     2
 }
 
-/// Writes the index in decimal and six zeros; the length of the line.
+/// Writes the index in decimal and seven zeros; the length of the line.
 fn write_line(text: &mut [u8], index: usize) -> usize {
     let digits = index.checked_ilog10().unwrap_or(0) as usize + 1;
     let mut rest = index;

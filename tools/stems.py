@@ -52,7 +52,7 @@ def renderer():
     jobs = sys.stdin.buffer.read()
     start("renderer")
     wrong = len(jobs) % 64 or len(jobs) > 65536
-    end("renderer", 0, b"8\n" if wrong else b"".join(b"%d 0 0 0 0 0 0\n" % k for k in range(len(jobs) // 64)))
+    end("renderer", 0, b"8\n" if wrong else b"".join(b"%d 0 0 0 0 0 0 0\n" % k for k in range(len(jobs) // 64)))
 
 
 def text_of(program):

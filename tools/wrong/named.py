@@ -131,8 +131,8 @@ NAMED = [
     ("heard/expect.rs", "*state = outcome.words", "no state is carried on", "()"),
     ("lists/expect.rs", "Ok(BAD_INPUT.to_string())", "a bad list answered by the line 7", 'Ok("7\\n".to_string())'),
     ("lists/expect.rs", "Ok(BAD_INPUT.to_string())", "a bad list answered by nothing", "Ok(String::new())"),
-    ("lists/expect.rs", "Ok(BAD_RECORD.to_string())", "7 numbered 9", 'Ok("9 0 0 0 0 0".to_string())'),
-    ("lists/expect.rs", "Ok(BAD_RECORD.to_string())", "7 numbered 8", 'Ok("8 0 0 0 0 0".to_string())'),
+    ("lists/expect.rs", "Ok(BAD_RECORD.to_string())", "7 numbered 9", 'Ok("9 0 0 0 0 0 0".to_string())'),
+    ("lists/expect.rs", "Ok(BAD_RECORD.to_string())", "7 numbered 8", 'Ok("8 0 0 0 0 0 0".to_string())'),
     ("lists/expect.rs", "*state = outcome.words", "no state is carried on", "()"),
     (
         "lists/expect.rs",

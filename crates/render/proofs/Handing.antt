@@ -71,28 +71,28 @@ unfolding lineOf
 line-long n [] = number-long n 10
 line-long n (m ∷ rest) = simp length-append (omega (arith, number-long n 32, line-long m rest))
 
-numbered-long : (k : ℕ) (outcomes : List Outcome) → length (numbered k outcomes) ≤ 77 * length outcomes
+numbered-long : (k : ℕ) (outcomes : List Outcome) → length (numbered k outcomes) ≤ 88 * length outcomes
 unfolding numbered
 numbered-long k [] = omega arith
 numbered-long k (o ∷ rest) = simp length-append (omega (arith, line-long k (o .answer ∷ o .drift ∷ told (o .counts)), numbered-long (suc k) rest))
 
-lines-long : (records : List (List ℕ)) → length (linesOf records) ≤ 77 * length records
-lines-long records = subst (λ (n : ℕ). length (linesOf records) ≤ 77 * n) (as-many initBank records) (numbered-long 0 (runOf initBank records))
+lines-long : (records : List (List ℕ)) → length (linesOf records) ≤ 88 * length records
+lines-long records = subst (λ (n : ℕ). length (linesOf records) ≤ 88 * n) (as-many initBank records) (numbered-long 0 (runOf initBank records))
 
-pub text-long : (list : List ℕ) → length (textOf list) ≤ 78848
+pub text-long : (list : List ℕ) → length (textOf list) ≤ 90112
 text-long list = go (isJobList list) refl
   where
-    go : (t : Bool) → isJobList list ≡ t → length (textOf list) ≤ 78848
+    go : (t : Bool) → isJobList list ≡ t → length (textOf list) ≤ 90112
     go true h = rw (good-list list h) (omega (arith, few-records list h, lines-long (recordsFrom list 0 (length list / 64)), how-many list 0 (length list / 64)))
     go false h = rw (bad-list list h) (omega (arith, number-long (answerNumber BadInput) 10))
 
 -- a buffer of the size that the library names is never too short: the number is 8 for a malformed list, and 0 for every other
-pub always-room : (list d : List ℕ) → 78848 ≤ length d → renderOf list d .number ≡ answerNumber (answerIf (isJobList list))
+pub always-room : (list d : List ℕ) → 90112 ≤ length d → renderOf list d .number ≡ answerNumber (answerIf (isJobList list))
 unfolding written
 always-room list d h = rw (le-leb (length (textOf list)) (length d) (omega (arith, text-long list)))
 
 -- what a program that lends so much room writes of it: the text, and nothing else
-pub whole-text : (r : Written) (d' list d : List ℕ) → handedBack r d' ≡ renderOf list d → 78848 ≤ length d → take (countOf r) d' ≡ textOf list
+pub whole-text : (r : Written) (d' list d : List ℕ) → handedBack r d' ≡ renderOf list d → 90112 ≤ length d → take (countOf r) d' ≡ textOf list
 unfolding written
 whole-text r d' list d e h =
     let fits = rw (le-leb (length (textOf list)) (length d) (omega (arith, text-long list))) at e in

@@ -26,7 +26,7 @@ said b p r d d' h e =
 -- k of n records are done: their lines are written, and with those of the rest after them they are all
 pub record Running (list d : List ℕ) (n : ℕ) (d' : List ℕ) (b : Bank) (at k : ℕ) : Type 0 where
   pub most : k ≤ n
-  pub short : at ≤ 77 * k
+  pub short : at ≤ 88 * k
   pub wrote : Wrote d 0 (take at d') at d'
   pub text : (m : ℕ) → k + m ≡ n → linesOf (recordsFrom list 0 n) ≡ take at d' ++ numbered k (runOf b (recordsFrom list k m))
 
@@ -46,7 +46,7 @@ module _ (list d : List ℕ) (n : ℕ) where
     running-end h = rw (w .text 0 (omega (arith, w .most)), append-nil) (w .wrote)
 
     pub running-more : (r : Played) (e : ℕ) (d'' : List ℕ) → k < n → r ≡ saidOf (recordPlayed b (recordOf list k))
-        → Wrote d' at (recordLine k (r .outcome)) e d'' → e ≤ at + 77 → Running list d n d'' (r .bank) e (k + 1)
+        → Wrote d' at (recordLine k (r .outcome)) e d'' → e ≤ at + 88 → Running list d n d'' (r .bank) e (k + 1)
     unfolding numbered runOf recordsFrom
     running-more r e d'' h q p l =
         let t : take e d'' ≡ take at d' ++ recordLine k (r .outcome) = rw (p .next, p .same) (take-laid d' at _ (omega (arith, p .next, p .room))) in

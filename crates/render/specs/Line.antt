@@ -25,6 +25,6 @@ lineOf [] = 10 ∷ []
 lineOf (n ∷ []) = numberThen n 10
 lineOf (n ∷ m ∷ rest) = numberThen n 32 ++ lineOf (m ∷ rest)
 
--- "record index, answer, Drift index (else 0), cycles, rises, falls, cuts"
+-- "record index, answer, Drift index (else 0), cycles, rises, falls, cuts", and 02 (iii): late "ends the renderer's line"
 abbrev pub recordLine : ℕ → Outcome → List ℕ
 recordLine k o = lineOf (k ∷ o .answer ∷ o .drift ∷ told (o .counts))

@@ -15,8 +15,8 @@ mod text;
 pub use form::is_job_list;
 pub use form::looks_like_text;
 
-// No text is longer: 1,024 lines of seven numbers, each of ten digits and one byte more.
-pub const ROOM: usize = 78848;
+// No text is longer: 1,024 lines of eight numbers, each of ten digits and one byte more.
+pub const ROOM: usize = 90112;
 
 // How many bytes were written: the lines of all records, or the one line of a malformed list. Or the text would not have fitted, and nothing was.
 pub enum Written {
@@ -70,7 +70,7 @@ fn fitted(good: bool, n: usize) -> Written
 
 // The text from the buffer's front on, and how long it is.
 fn compose(list: &[u8], out: &mut [u8]) -> usize
-    requires { ⌜ 78848 ≤ length (now out) ⌝ }
+    requires { ⌜ 90112 ≤ length (now out) ⌝ }
     ensures { λ r. ⌜ Wrote (now (out .entry)) 0 (textOf (now (list .entry))) r (now (out .exit)) ⌝ }
 {
     if is_job_list(list) {
@@ -82,7 +82,7 @@ fn compose(list: &[u8], out: &mut [u8]) -> usize
 
 // The lines of the first n records. Each kind's state goes from record to record.
 fn records(list: &[u8], n: usize, out: &mut [u8]) -> usize
-    requires { ⌜ (n ≤ 1024) × (78848 ≤ length (now out)) ⌝ }
+    requires { ⌜ (n ≤ 1024) × (90112 ≤ length (now out)) ⌝ }
     ensures { λ r. ⌜ Wrote (now (out .entry)) 0 (linesOf (recordsFrom (now (list .entry)) 0 n)) r (now (out .exit)) ⌝ }
 {
     let mut bank = bank::start();

@@ -1,9 +1,11 @@
 // Lines of numbers, written into a buffer.
 ghost use Prim.Native.Nat.{_+_, _≤_};
 ghost use lib.ListN.{length};
-ghost use Rattle.render.specs.Line.{numberThen, recordLine};
+ghost use Rattle.block.specs.Counting.{told};
+ghost use Rattle.render.specs.Line.{numberThen, lineOf, recordLine};
 ghost use Rattle.render.specs.Private.{Wrote};
 use bank::Outcome;
+use block::Counts;
 
 // Puts a text into the buffer from `at` on, and gives the place after it.
 pub(crate) fn append(out: &mut [u8], at: usize, text: &[u8]) -> usize
@@ -30,16 +32,27 @@ pub(crate) fn number(out: &mut [u8], at: usize, n: u32, after: u8) -> usize
     e + 1
 }
 
-// What is said of record k: seven numbers, with a space after each but the last.
+// What is said of record k: its index, the answer and Drift's index, and then the counts.
 pub(crate) fn line(out: &mut [u8], at: usize, k: u32, o: Outcome) -> usize
-    requires { ⌜ at + 77 ≤ length (now out) ⌝ }
-    ensures { λ e. ⌜ Wrote (now (out .entry)) at (recordLine k o) e (now (out .exit)) × (e ≤ at + 77) ⌝ }
+    requires { ⌜ at + 88 ≤ length (now out) ⌝ }
+    ensures { λ e. ⌜ Wrote (now (out .entry)) at (recordLine k o) e (now (out .exit)) × (e ≤ at + 88) ⌝ }
 {
+    let counts = o.counts;
     let a = number(out, at, k, b' ');
     let b = number(out, a, o.answer, b' ');
     let c = number(out, b, o.drift, b' ');
-    let d = number(out, c, o.counts.cycles, b' ');
-    let e = number(out, d, o.counts.rises, b' ');
-    let f = number(out, e, o.counts.falls, b' ');
-    number(out, f, o.counts.cuts, b'\n')
+    line_end(out, c, counts)
+}
+
+// The five counts that end a line, with a space after each but the last.
+fn line_end(out: &mut [u8], at: usize, counts: Counts) -> usize
+    requires { ⌜ at + 55 ≤ length (now out) ⌝ }
+    ensures { λ e. ⌜ Wrote (now (out .entry)) at (lineOf (told counts)) e (now (out .exit)) × (e ≤ at + 55) ⌝ }
+{
+    let late = block::late(counts);
+    let a = number(out, at, counts.cycles, b' ');
+    let b = number(out, a, counts.rises, b' ');
+    let c = number(out, b, counts.falls, b' ');
+    let d = number(out, c, counts.cuts, b' ');
+    number(out, d, late, b'\n')
 }
