@@ -1,4 +1,4 @@
--- What a call from another language gives, for any oscillator: the answer that it returns, the state's words, the six words of the result, the first of
+-- What a call from another language gives, for any oscillator: the answer that it returns, the state's words, the seven words of the result, the first of
 -- them the answer again, and the samples. Assumes nothing.
 use mathlib.Core.Path.{_≡_}
 use mathlib.Core.Bool.{Bool, cond, _&&_}
@@ -21,7 +21,7 @@ pub record Face : Type 0 where
   pub result : List ℕ
   pub samples : List Float
 
--- answer, Drift's index (else 0), cycles, rises, falls, cuts
+-- answer, Drift's index (else 0), cycles, rises, falls, cuts, late
 abbrev pub resultOf : {S : Type 0} → Call S → List ℕ
 resultOf c = c .number ∷ c .index ∷ told (c .counts)
 

@@ -1,14 +1,15 @@
-// What the faces share: the six words of a result, words that are no state, when a state is stored, and whole numbers as words.
+// What the faces share: the seven words of a result, words that are no state, when a state is stored, and whole numbers as words.
 ghost use mathlib.Core.Path.{_≡_};
 ghost use mathlib.Core.List.{_∷_};
 ghost use Rattle.block.specs.Answers.{numberOf};
 ghost use Rattle.block.specs.Counting.{noCounts, told};
 ghost use Rattle.words.specs.Face.{resultWords, noBool, badStateOf, storesOf, signedOf, unsignedOf};
 
-// The six words of a result: the answer, Drift's index or 0, and the counts in the order in which they are told.
-pub fn result_of(answer: block::Answer, counts: block::Counts) -> [u32; 6]
+// The seven words of a result: the answer, Drift's index or 0, and the counts in the order in which they are told.
+pub fn result_of(answer: block::Answer, counts: block::Counts) -> [u32; 7]
     ensures { λ r. ⌜ r ≡ resultWords answer counts ⌝ }
 {
+    let late = block::late(counts);
     [
         block::number(answer),
         block::index(answer),
@@ -16,6 +17,7 @@ pub fn result_of(answer: block::Answer, counts: block::Counts) -> [u32; 6]
         counts.rises,
         counts.falls,
         counts.cuts,
+        late,
     ]
 }
 
@@ -27,13 +29,13 @@ pub fn no_bool(word: u32) -> bool
 }
 
 // The result for words that are no state. A block that is too long is refused as such, as it is with any state.
-pub fn no_state(samples: usize) -> [u32; 6]
+pub fn no_state(samples: usize) -> [u32; 7]
     ensures { λ r. ⌜ r ≡ badStateOf samples ∷ 0 ∷ told noCounts ⌝ }
 {
     if samples <= 4096 {
-        [3, 0, 0, 0, 0, 0]
+        [3, 0, 0, 0, 0, 0, 0]
     } else {
-        [1, 0, 0, 0, 0, 0]
+        [1, 0, 0, 0, 0, 0, 0]
     }
 }
 
