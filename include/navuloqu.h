@@ -24,7 +24,7 @@
  *     state's frequency is eight times that of the call, halved for each octave.
  *
  * What is counted:
- *                    cycles: wraps of                           rises and falls                                        cuts
+ *                    cycles: wraps of                           rises and falls                                        cuts, late
  *   variable shape   the master's phase with `sync`,            the slave's pulse turns high and low                   with `sync`
  *                    the slave's without
  *   variable saw     its phase                                  the pulse turns high at the width, low at the wrap     none
@@ -35,6 +35,13 @@
  *                                                               the width, of triangle and slope before it, and which
  *                                                               impulse train and saw leave as it is
  * A cut is a reset by the master that finds the slave's pulse high. A string an octave lower counts half as many cycles.
+ *
+ * Late is an edge of the slave's pulse that comes after the reset in its own sample. A reset falls between two samples, and in its sample the
+ * slave may still go its whole step: then the pulse turns, high or low, at a moment when the master has already set it back. The edge is in
+ * the sound, as in the source's. It is counted as late, and is none of the rises and falls: these are the edges that are not late. One at the
+ * very moment of the reset is not late. A cut stays a cut where only a late rise has made the pulse high.
+ * Add the late ones back for the balance: `high` after a block less `high` before is all rises less all falls less the cuts. `result` gives
+ * late rises and late falls together, so that the balance can be read from it only where none is late.
  *
  * The state's ranges: phases from 0 to below 1 (the variable saw's to 81/64 where `high` is 1, the string synth's to below 8); frequencies
  * 0 to 17/64 (string synth 17/32); pw and previous_pw 0 to 1; waveshape -1 to 2; phase_modulation and gains -16 to 16; the NES triangle's
@@ -68,22 +75,23 @@ extern "C" {
 #endif
 
 /* What this header declares. Word counts, arguments and results may change with it, so that the archive's names carry it: a program that was
- * compiled with the header of another version does not link. */
-#define NAVULOQU_VERSION 2
-#define navuloqu_variable_shape_init navuloqu_2_variable_shape_init
-#define navuloqu_variable_shape_render navuloqu_2_variable_shape_render
-#define navuloqu_variable_shape_set_master_phase navuloqu_2_variable_shape_set_master_phase
-#define navuloqu_variable_saw_init navuloqu_2_variable_saw_init
-#define navuloqu_variable_saw_render navuloqu_2_variable_saw_render
-#define navuloqu_super_square_init navuloqu_2_super_square_init
-#define navuloqu_super_square_render navuloqu_2_super_square_render
-#define navuloqu_nes_triangle_init navuloqu_2_nes_triangle_init
-#define navuloqu_nes_triangle_render navuloqu_2_nes_triangle_render
-#define navuloqu_string_synth_init navuloqu_2_string_synth_init
-#define navuloqu_string_synth_render navuloqu_2_string_synth_render
-#define navuloqu_classic_init navuloqu_2_classic_init
-#define navuloqu_classic_render navuloqu_2_classic_render
-#define navuloqu_wave_write navuloqu_2_wave_write
+ * compiled with the header of another version does not link. From 2 to 3: `result` has one word more, NAVULOQU_RESULT_LATE, and rises and
+ * falls no longer have the late ones in them. */
+#define NAVULOQU_VERSION 3
+#define navuloqu_variable_shape_init navuloqu_3_variable_shape_init
+#define navuloqu_variable_shape_render navuloqu_3_variable_shape_render
+#define navuloqu_variable_shape_set_master_phase navuloqu_3_variable_shape_set_master_phase
+#define navuloqu_variable_saw_init navuloqu_3_variable_saw_init
+#define navuloqu_variable_saw_render navuloqu_3_variable_saw_render
+#define navuloqu_super_square_init navuloqu_3_super_square_init
+#define navuloqu_super_square_render navuloqu_3_super_square_render
+#define navuloqu_nes_triangle_init navuloqu_3_nes_triangle_init
+#define navuloqu_nes_triangle_render navuloqu_3_nes_triangle_render
+#define navuloqu_string_synth_init navuloqu_3_string_synth_init
+#define navuloqu_string_synth_render navuloqu_3_string_synth_render
+#define navuloqu_classic_init navuloqu_3_classic_init
+#define navuloqu_classic_render navuloqu_3_classic_render
+#define navuloqu_wave_write navuloqu_3_wave_write
 
 /* Whoever does not look at what is returned is warned by the compiler. */
 #if (defined(__cplusplus) && __cplusplus >= 201703L) || (defined(__STDC_VERSION__) && __STDC_VERSION__ > 201710L)
@@ -127,10 +135,11 @@ static inline const char *navuloqu_answer_name(uint32_t answer)
 #define NAVULOQU_RESULT_ANSWER 0      /* as it is returned */
 #define NAVULOQU_RESULT_DRIFT_INDEX 1 /* with NAVULOQU_DRIFT the index of the first sample with a step outside its room, else 0 */
 #define NAVULOQU_RESULT_CYCLES 2
-#define NAVULOQU_RESULT_RISES 3
+#define NAVULOQU_RESULT_RISES 3 /* those that are not late; likewise the falls */
 #define NAVULOQU_RESULT_FALLS 4
 #define NAVULOQU_RESULT_CUTS 5
-#define NAVULOQU_RESULT_WORDS 6
+#define NAVULOQU_RESULT_LATE 6 /* late rises and late falls together */
+#define NAVULOQU_RESULT_WORDS 7
 
 /* The floating-point environment. Between the two calls floats are computed as the oscillators need it, in this thread; the second puts back
  * what was there before, exception flags too. `render`, `set_master_phase` and the classic's `init` need it; the other `init` do not, and

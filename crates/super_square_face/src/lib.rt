@@ -54,7 +54,7 @@ pub fn render(
     frequency: f32,
     shape: f32,
     out: &mut [f32],
-    result: &mut [u32; 6],
+    result: &mut [u32; 7],
 ) -> u32
     ensures { λ r. ⌜ record { answer = r; words = now (words .exit); result = now (result .exit); samples = now (out .exit) } ≡ renderFace (now (words .entry)) frequency shape (now (out .entry)) ⌝ }
 {

@@ -57,7 +57,7 @@ pub fn render(
     pw: f32,
     waveshape: f32,
     out: &mut [f32],
-    result: &mut [u32; 6],
+    result: &mut [u32; 7],
 ) -> u32
     ensures { λ r. ⌜ record { answer = r; words = now (words .exit); result = now (result .exit); samples = now (out .exit) } ≡ renderFace (now (words .entry)) frequency pw waveshape (now (out .entry)) ⌝ }
 {

@@ -69,7 +69,7 @@ pub fn render(
     sync: bool,
     phase_output: bool,
     out: &mut [f32],
-    result: &mut [u32; 6],
+    result: &mut [u32; 7],
 ) -> u32
     ensures { λ r. ⌜ record { answer = r; words = now (words .exit); result = now (result .exit); samples = now (out .exit) } ≡ renderFace (now (words .entry)) «master_frequency» frequency pw waveshape «phase_modulation» sync «phase_output» (now (out .entry)) ⌝ }
 {
