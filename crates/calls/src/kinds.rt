@@ -10,8 +10,8 @@ pub(crate) fn put_variable_shape(
     out: &mut [f32],
 ) -> usize {
     record::read_state(record, words);
-    let mut result = [0u32; 6];
-    let answer = navuloqu::variable_shape::navuloqu_2_variable_shape_render(
+    let mut result = [0u32; 7];
+    let answer = navuloqu::variable_shape::navuloqu_3_variable_shape_render(
         words,
         record::float_at(record, 12),
         record::float_at(record, 8),
@@ -34,8 +34,8 @@ pub(crate) fn put_variable_saw(
     out: &mut [f32],
 ) -> usize {
     record::read_state(record, words);
-    let mut result = [0u32; 6];
-    let answer = navuloqu::variable_saw::navuloqu_2_variable_saw_render(
+    let mut result = [0u32; 7];
+    let answer = navuloqu::variable_saw::navuloqu_3_variable_saw_render(
         words,
         record::float_at(record, 8),
         record::float_at(record, 16),
@@ -54,8 +54,8 @@ pub(crate) fn put_super_square(
     out: &mut [f32],
 ) -> usize {
     record::read_state(record, words);
-    let mut result = [0u32; 6];
-    let answer = navuloqu::super_square::navuloqu_2_super_square_render(
+    let mut result = [0u32; 7];
+    let answer = navuloqu::super_square::navuloqu_3_super_square_render(
         words,
         record::float_at(record, 8),
         record::float_at(record, 16),
@@ -73,8 +73,8 @@ pub(crate) fn put_nes_triangle(
     out: &mut [f32],
 ) -> usize {
     record::read_state(record, words);
-    let mut result = [0u32; 6];
-    let answer = navuloqu::nes_triangle::navuloqu_2_nes_triangle_render(
+    let mut result = [0u32; 7];
+    let answer = navuloqu::nes_triangle::navuloqu_3_nes_triangle_render(
         words,
         record::float_at(record, 8),
         testing::word_at(record, 4),
@@ -94,8 +94,8 @@ pub(crate) fn put_string_synth(
     record::read_state(record, words);
     let registration = record::registration(record);
     let entries = record::entries(record);
-    let mut result = [0u32; 6];
-    let answer = navuloqu::string_synth::navuloqu_2_string_synth_render(
+    let mut result = [0u32; 7];
+    let answer = navuloqu::string_synth::navuloqu_3_string_synth_render(
         words,
         record::float_at(record, 8),
         &registration[0..entries],
@@ -114,8 +114,8 @@ pub(crate) fn put_classic(
     out: &mut [f32],
 ) -> usize {
     record::read_state(record, words);
-    let mut result = [0u32; 6];
-    let answer = navuloqu::classic::navuloqu_2_classic_render(
+    let mut result = [0u32; 7];
+    let answer = navuloqu::classic::navuloqu_3_classic_render(
         words,
         record::float_at(record, 8),
         record::float_at(record, 16),

@@ -4,23 +4,29 @@
 pub(crate) fn put_outcome(
     text: &mut [u8],
     returned: u32,
-    result: &[u32; 6],
+    result: &[u32; 7],
     words: &[u32],
     out: &[f32],
 ) -> usize {
-    let numbers = put_result(text, returned, result);
-    let state = testing::put_words(text, numbers, words, b' ');
+    let head = put_head(text, returned, result);
+    let counts = put_counts(text, head, result);
+    let state = testing::put_words(text, counts, words, b' ');
     testing::put_word(text, state, testing::checksum(out), b'\n')
 }
 
-// The six words of a result, in decimal.
-fn put_result(text: &mut [u8], returned: u32, result: &[u32; 6]) -> usize {
+// The first two words of a result.
+fn put_head(text: &mut [u8], returned: u32, result: &[u32; 7]) -> usize {
     let answer = put_answer(text, returned, result[0]);
-    let index = testing::put_number(text, answer, result[1], b' ');
-    let cycles = testing::put_number(text, index, result[2], b' ');
+    testing::put_number(text, answer, result[1], b' ')
+}
+
+// The five counts after them.
+fn put_counts(text: &mut [u8], at: usize, result: &[u32; 7]) -> usize {
+    let cycles = testing::put_number(text, at, result[2], b' ');
     let rises = testing::put_number(text, cycles, result[3], b' ');
     let falls = testing::put_number(text, rises, result[4], b' ');
-    testing::put_number(text, falls, result[5], b' ')
+    let cuts = testing::put_number(text, falls, result[5], b' ');
+    testing::put_number(text, cuts, result[6], b' ')
 }
 
 // The answer, which is returned and is the result's first word too: where the two differ there is no such number.

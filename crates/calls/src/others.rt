@@ -10,11 +10,11 @@ pub(crate) fn put_master_phase(
     out: &[f32],
 ) -> usize {
     record::read_state(record, words);
-    let answer = navuloqu::variable_shape::navuloqu_2_variable_shape_set_master_phase(
+    let answer = navuloqu::variable_shape::navuloqu_3_variable_shape_set_master_phase(
         words,
         record::float_at(record, 12),
     );
-    line::put_outcome(text, answer, &[answer, 0, 0, 0, 0, 0], words, out)
+    line::put_outcome(text, answer, &[answer, 0, 0, 0, 0, 0, 0], words, out)
 }
 
 // The classic is started at a sample rate, from the given state.
@@ -25,6 +25,6 @@ pub(crate) fn put_start(
     out: &[f32],
 ) -> usize {
     record::read_state(record, words);
-    let answer = navuloqu::classic::navuloqu_2_classic_init(words, record::float_at(record, 12));
-    line::put_outcome(text, answer, &[answer, 0, 0, 0, 0, 0], words, out)
+    let answer = navuloqu::classic::navuloqu_3_classic_init(words, record::float_at(record, 12));
+    line::put_outcome(text, answer, &[answer, 0, 0, 0, 0, 0, 0], words, out)
 }

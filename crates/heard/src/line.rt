@@ -1,5 +1,5 @@
-// A record's line: its index, answer, Drift index or else 0, cycles, rises, falls and cuts, as the renderer prints them; then how many samples it left,
-// and their checksum.
+// A record's line: its index, answer, Drift index or else 0, cycles, rises, falls, cuts and late, as the renderer prints them; then how many samples it
+// left, and their checksum.
 ghost use Prim.Native.Nat.{_≤_};
 ghost use lib.ListN.{length};
 use bank::Outcome;
@@ -10,7 +10,7 @@ pub(crate) const UNTOUCHED: f32 = 1.0e30;
 
 // The line of record k, from what the bank said of it and the buffer that it was lent.
 pub(crate) fn say(k: u32, outcome: Outcome, out: &[f32; 4096]) -> bool {
-    let mut space = [0u8; 97];
+    let mut space = [0u8; 108];
     let text: &mut [u8] = &mut space;
     let head = put_head(text, k, outcome.answer, outcome.drift);
     let counts = outcome.counts;
@@ -31,7 +31,8 @@ fn put_counts(text: &mut [u8], at: usize, counts: Counts) -> usize {
     let cycles = testing::put_number(text, at, counts.cycles, b' ');
     let rises = testing::put_number(text, cycles, counts.rises, b' ');
     let falls = testing::put_number(text, rises, counts.falls, b' ');
-    testing::put_number(text, falls, counts.cuts, b' ')
+    let cuts = testing::put_number(text, falls, counts.cuts, b' ');
+    testing::put_number(text, cuts, block::late(counts), b' ')
 }
 
 // How many samples were left, and their checksum.
