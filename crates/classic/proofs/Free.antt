@@ -1,5 +1,5 @@
 -- The classic oscillator has no sync: whatever its edges are, nothing is late. Assumes nothing.
-use mathlib.Core.Path.{_≡_, refl}
+use mathlib.Core.Path.{refl}
 use mathlib.Core.Bool.{Bool, true, false, xor, cond}
 use mathlib.Core.List.{List}
 use lib.ListN.{getD}
@@ -13,7 +13,7 @@ use Rattle.classic.specs.declared.State.{State}
 use Rattle.classic.specs.declared.OscillatorShape.{OscillatorShape}
 use Rattle.classic.specs.declared.OscillatorShape.the-variants.{ImpulseTrain, Saw, Triangle, Slope, Square, SquareBright, SquareDark, SquareTriangle}
 use Rattle.classic.specs.Shapes.{widthOf}
-use Rattle.classic.specs.Edges.{turned, sawWrap, sawEdges, triangleCross, triangleAtWidth, triangleWrap, triangleEdges, squareCross, squareAtWidth, squareWrap, squareEdges, edgesOf}
+use Rattle.classic.specs.Edges.{sawWrap, sawEdges, triangleCross, triangleAtWidth, triangleWrap, triangleEdges, squareCross, squareAtWidth, squareWrap, squareEdges, edgesOf}
 use Rattle.classic.specs.Sample.{finish, sampleOf, sampleAt}
 
 -- whichever way a test goes

@@ -72,7 +72,7 @@ module _ (shape : OscillatorShape) (same : (f w : Float) (e : Edge) → edgesOf 
           let f = getD steps 0 zero32 in
           let e = startOf (q .phase ⊕ f) (q .high) (q .«next_sample») in
           let k = saw-sides f e in
-          record { rises = rw (p .rises, same, k .1); falls = rw (p .falls, same, k .1); high = rw (same, k .0) (p .high) }
+          record { rises = rw (same, k .1) (omega (arith, p .rises)); falls = rw (same, k .1) (omega (arith, p .falls)); high = rw (same, k .0) (p .high) }
 
 pub impulse-train-no-sides : EachCall ImpulseTrain NoSides
 unfolding edgesOf

@@ -35,6 +35,18 @@ super-square-together = late-whole SuperSquare.laws
 pub variable-shape-together : (sync : Bool) → BothTogether (variableShape sync)
 variable-shape-together sync = late-whole (Shape.laws sync)
 
+pub variable-saw-together : BothTogether variableSaw
+variable-saw-together = late-whole Saw.laws
+
+pub nes-triangle-together : BothTogether nesTriangle
+nes-triangle-together = late-whole Nes.laws
+
+pub string-synth-together : BothTogether stringSynth
+string-synth-together = late-whole String.laws
+
+pub classic-together : BothTogether classic
+classic-together = late-whole Classic.laws
+
 -- ---- what 01 counted
 pub super-square-in-01 : CountedIn01 superSquare01 superSquare
 super-square-in-01 = square-as-in-01

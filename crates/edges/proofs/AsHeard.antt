@@ -14,7 +14,7 @@ use Rattle.edges.specs.CrossingLoop.{turns, crossingLoop, Crosses}
 use Rattle.edges.specs.Sync.{atResetOf, cutEdge, resetOf}
 use Rattle.edges.proofs.Totals.{everyRise, everyFall, rose-more, fell-more}
 use Rattle.edges.proofs.CrossingLoop.{looped}
-use Rattle.edges.proofs.In01.{rose01, fellIf01, cutEdge01, resetOf01}
+use Rattle.edges.proofs.In01.{rose01, fellIf01, resetOf01}
 
 abbrev pub crossingsAsHeard : Crossings → Crossings
 crossingsAsHeard c = record { rises = everyRise c; falls = everyFall c; «late_rises» = 0; «late_falls» = 0 }

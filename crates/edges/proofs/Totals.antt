@@ -1,5 +1,5 @@
 -- Crossings, late and not late together: a rise adds one to the rises, a fall one to the falls, and where no reset is nothing is late. Assumes nothing.
-use mathlib.Core.Path.{_≡_, refl}
+use mathlib.Core.Path.{_≡_}
 use mathlib.Core.Bool.{Bool, true, false, cond, not, _&&_}
 use Prim.Native.Nat.{ℕ, zero, suc, _+_, _%_, _^_, _≤_}
 use native.Mathlib.Nat.{mod-eq-of-lt}
@@ -8,7 +8,7 @@ use lib.Ieee.{Float, lt}
 use Rattle.floats.specs.F32.{one32}
 use Rattle.edges.specs.declared.Crossings.{Crossings}
 use Rattle.edges.specs.declared.Edge.{Edge}
-use Rattle.edges.specs.Counted.{isLate, rose, fell}
+use Rattle.edges.specs.Counted.{rose, fell}
 use Rattle.edges.specs.CrossingLoop.{turns, Crosses}
 
 abbrev pub everyRise : Crossings → ℕ

@@ -5,7 +5,6 @@ use mathlib.Core.List.{List}
 use native.Mathlib.Omega.{arith}
 use lib.Ieee.{Float}
 use Rattle.block.specs.Limits.{NoneLate}
-use Rattle.edges.specs.declared.Edge.{Edge}
 use Rattle.edges.proofs.Totals.{NoReset, everyFall, loop-none-late}
 use Rattle.variable_shape.specs.declared.State.{State}
 use Rattle.variable_shape.specs.declared.waveform.Waveform.{Waveform}

@@ -25,7 +25,7 @@ use Rattle.variable_shape.specs.declared.steps.Steps.{Steps}
 use Rattle.variable_shape.specs.declared.waveform.Waveform.{Waveform}
 use Rattle.variable_shape.specs.declared.sample.Sampled.{Sampled}
 use Rattle.variable_shape.specs.Waveform.{waveformOf, naiveOf}
-use Rattle.variable_shape.specs.Sample.{riseOf, fallOf, crossed, edgeOf, after, finish, resetSample, freeCycles, plainSample, masterStep, sampleOf, stepsAt, sampleAt}
+use Rattle.variable_shape.specs.Sample.{riseOf, fallOf, edgeOf, after, finish, resetSample, freeCycles, plainSample, masterStep, sampleOf, stepsAt, sampleAt}
 use Rattle.variable_shape.specs.Block.{Arguments, variableShape}
 use Rattle.variable_shape.proofs.Edges.{crosses}
 use Rattle.variable_shape.proofs.Free.{free-falls, sample-heard}
