@@ -1,4 +1,5 @@
--- The claims over the two tables, and of the Drift figure.
+-- The claims over the three tables, and of the Drift figure.
 pub mod Figures
 pub mod Classic
+pub mod Late
 pub mod Drift

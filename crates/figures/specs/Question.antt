@@ -1,6 +1,6 @@
 -- What a figure can ask, and the answer by the definitions that the contracts cite. Inputs and answers are bit patterns, in which -0.0 differs from 0.0.
 -- Assumes nothing.
-use mathlib.Core.Bool.{false}
+use mathlib.Core.Bool.{Bool, false}
 use mathlib.Core.List.{List, [], _∷_}
 use Prim.Native.Nat.{ℕ, zero, suc}
 use lib.ListN.{getD}
@@ -19,6 +19,7 @@ use Rattle.variable_saw.specs.Figures as Saw
 use Rattle.variable_shape.specs.Figures as Shape
 use Rattle.classic.specs.declared.OscillatorShape.{OscillatorShape}
 use Rattle.figures.specs.Classic as Classic
+use Rattle.figures.specs.Late as Late
 
 pub data Question : Type 0 where
   thisBlep : Question
@@ -33,6 +34,8 @@ pub data Question : Type 0 where
   shapeSample : Question
   classicSample : OscillatorShape → Question
   classicStart : Question
+  shapeCrossings : Bool → Question
+  squareCrossings : Question
 
 -- input k as it stands, and as a float
 abbrev input : List ℕ → ℕ → ℕ
@@ -80,7 +83,7 @@ shapeFigure phase step width =
     t .counts .rises ∷ t .counts .falls ∷ t .counts .cycles ∷ toBits binary32 (t .state .«slave_phase») ∷ []
 
 -- an interpolation's inputs are the value, the target and the number of steps; a sample's are the phase, the step and the width, if it has one;
--- a pulse width's are the frequency and the width; a classic sample's are its state's words and its two steps; every other question has one input
+-- a pulse width's are the frequency and the width; a classic sample's are its state's words and its two steps; those of crossings stand in LateRows; every other question has one input
 abbrev pub answerTo : Question → List ℕ → List ℕ
 answerTo thisBlep inputs = one (thisBlepSample (float inputs 0))
 answerTo nextBlep inputs = one (nextBlepSample (float inputs 0))
@@ -94,3 +97,5 @@ answerTo sawSamples inputs = sawFigure (float inputs 0) (float inputs 1) (float 
 answerTo shapeSample inputs = shapeFigure (float inputs 0) (float inputs 1) (float inputs 2)
 answerTo (classicSample shape) inputs = Classic.sampleFigure shape inputs
 answerTo classicStart inputs = Classic.startFigure (float inputs 0)
+answerTo (shapeCrossings sync) inputs = Late.shapeFigure sync inputs
+answerTo squareCrossings inputs = Late.squareFigure inputs
