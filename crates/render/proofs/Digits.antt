@@ -57,6 +57,10 @@ pub decimal-long : (n : ℕ) → length (decimalOf n) ≤ 10
 unfolding decimalOf
 decimal-long n = spelled-long 10 n
 
+-- the text of a number that another is equal to
+pub as-equal : (after : ℕ) {n m : ℕ} (q : n ≡ m) {d : List ℕ} {at e : ℕ} {d' : List ℕ} → Wrote d at (numberThen n after) e d' → Wrote d at (numberThen m after) e d'
+as-equal after q w = rw (← q) w
+
 -- a number's text, and then the byte after it
 module _ (d : List ℕ) (at n b : ℕ) (t : List ℕ) (e : ℕ) (d' : List ℕ) (w : Wrote d at t e d') (q : t ≡ decimalOf n) (h : at + 11 ≤ length d) where
   short : e ≤ at + 10

@@ -8,12 +8,21 @@ use lib.Dec.{leb, eqb}
 use lib.ListN.{length, getD}
 use lib.Ieee.{Float}
 use borrow.Author.Tests.{eqb-true}
+use Rattle.block.specs.declared.Answer.{Answer}
+use Rattle.block.specs.declared.Counts.{Counts}
+use Rattle.block.specs.Answers.{numberOf, indexOf}
+use Rattle.block.specs.Counting.{late}
 use Rattle.block.specs.Calls.{Call, refusal}
 use Rattle.block.specs.Checks.{Check, FirstFailing, here, later, _unless_}
 use Rattle.block.specs.Oscillator.{Oscillator, checksOf, callOf, Way, refused, drifted, answered}
 use Rattle.block.proofs.Ways.{not-done, refused-by, goes, way}
 use Rattle.block.proofs.Oscillators.{answered-or-as-given, empty-answered}
-use Rattle.words.specs.Face.{Face, resultOf, storesOf, faceOf, refusedFace, AnsweredOrKept, noState}
+use Rattle.words.specs.Face.{Face, resultOf, resultWords, storesOf, faceOf, refusedFace, AnsweredOrKept, noState}
+
+-- what `block` tells of an answer and of counts, as the words of a result
+pub result-is : (answer : Answer) (counts : Counts) {number index both : ℕ} → number ≡ numberOf answer → index ≡ indexOf answer → both ≡ late counts
+    → number ∷ index ∷ counts .cycles ∷ counts .rises ∷ counts .falls ∷ counts .cuts ∷ both ∷ [] ≡ resultWords answer counts
+result-is answer counts at-number at-index at-late = rw (at-number, at-index, at-late)
 
 -- c is what the oscillator's call left, d what its definition says, from the state that was read
 pub face-is : {S : Type 0} (wordsOf : S → List ℕ) (given : List ℕ) {c d : Call S} {stored : Bool} {after kept result : List ℕ}
