@@ -157,7 +157,7 @@ fn byte_1_is_a_shape_or_another_call_or_none() {
         let line = line(&shaped(byte));
         let expected = match byte {
             0..=7 => "0 0 ",
-            128 => "4 0 0 0 0 0 ",
+            128 => "4 0 0 0 0 0 0 ",
             _ => "-",
         };
         assert!(line.starts_with(expected), "{byte}: {line}");
@@ -180,8 +180,8 @@ fn another_call_touches_no_sample_and_leaves_any_bits() {
     let nans = " ff800001".repeat(9);
     let untouched = super::line::checksum(&buffer(&record));
     for (phase, told) in [
-        (0.25f32, "0 0 0 0 0 0 3e800000"),
-        (1.0, "4 0 0 0 0 0 ff800001"),
+        (0.25f32, "0 0 0 0 0 0 0 3e800000"),
+        (1.0, "4 0 0 0 0 0 0 ff800001"),
     ] {
         record.set_float(GIVEN_AT, phase);
         assert_eq!(line(&record), format!("{told}{nans} {untouched:08x}"));
@@ -190,12 +190,15 @@ fn another_call_touches_no_sample_and_leaves_any_bits() {
     let mut record = shaped(ANOTHER_CALL);
     record.set_state_words(&[0xff80_0001; 9]);
     record.set_float(GIVEN_AT, 384_001.0);
-    let refused = format!("4 0 0 0 0 0 ff800001{} {untouched:08x}", &nans[..72]);
+    let refused = format!("4 0 0 0 0 0 0 ff800001{} {untouched:08x}", &nans[..72]);
     assert_eq!(line(&record), refused);
     record.set_float(GIVEN_AT, 48_000.0);
     let start = super::start(CLASSIC, true).into_iter();
     let words: String = start.map(|word| format!(" {word:08x}")).collect();
-    assert_eq!(line(&record), format!("0 0 0 0 0 0{words} {untouched:08x}"));
+    assert_eq!(
+        line(&record),
+        format!("0 0 0 0 0 0 0{words} {untouched:08x}")
+    );
 }
 
 #[test]

@@ -84,7 +84,7 @@ mod tests {
             index: 0,
             counts: Counts::default(),
             words: words.to_vec(),
-            double_rises: 0,
+            samples: Vec::new(),
         }
     }
 

@@ -34,12 +34,18 @@ pub fn checksum(samples: &[f32]) -> u32 {
     samples.iter().fold(0, step) as u32
 }
 
-/// Answer, index, cycles, rises, falls, cuts.
+/// Answer, index, cycles, rises, falls, cuts, late.
 pub fn answer_and_counts(outcome: &Outcome) -> String {
     let counts = outcome.counts;
     format!(
-        "{} {} {} {} {} {}",
-        outcome.answer, outcome.index, counts.cycles, counts.rises, counts.falls, counts.cuts
+        "{} {} {} {} {} {} {}",
+        outcome.answer,
+        outcome.index,
+        counts.cycles,
+        counts.rises,
+        counts.falls,
+        counts.cuts,
+        counts.late()
     )
 }
 
@@ -78,13 +84,13 @@ mod tests {
             line(asks, &outcome, samples)
         };
         let stored = told(Asks::Render, 0, &[0.0]);
-        assert_eq!(stored, "0 0 0 0 0 0 7fc00000 00000000");
-        let as_it_is = "0 0 0 0 0 0 ff800001 00000000";
+        assert_eq!(stored, "0 0 0 0 0 0 0 7fc00000 00000000");
+        let as_it_is = "0 0 0 0 0 0 0 ff800001 00000000";
         assert_eq!(told(Asks::Render, 0, &[]), as_it_is);
         assert_eq!(told(Asks::SetMasterPhase, 0, &[0.0]), as_it_is);
         assert_eq!(told(Asks::Init, 0, &[0.0]), as_it_is);
         let refused = told(Asks::Render, 3, &[0.0]);
-        assert_eq!(refused, "3 0 0 0 0 0 ff800001 00000000");
+        assert_eq!(refused, "3 0 0 0 0 0 0 ff800001 00000000");
     }
 
     #[test]

@@ -8,6 +8,7 @@ pub mod make;
 mod model;
 mod original;
 pub mod record;
+mod resets;
 pub mod stats;
 
 pub use kinds::Kinds;

@@ -1,6 +1,7 @@
 //! What a list of calls went through, for a reader to judge what it tried.
 
 use super::model::Outcome;
+use super::resets::Met;
 use super::Kinds;
 use std::collections::BTreeSet;
 use std::fmt;
@@ -15,12 +16,13 @@ struct KindStats {
     others: usize,
 }
 
-/// Counts for each kind, by its number; the indexes that a Drift came with; and the records that the
-/// line `-` passes over.
+/// Counts for each kind, by its number; the indexes that a Drift came with; how crossings met resets;
+/// and the records that the line `-` passes over.
 #[derive(Default)]
 pub struct Stats {
     kinds: [KindStats; Kinds::COUNT as usize + 1],
     drifts: BTreeSet<usize>,
+    met: Met,
     passed_over: usize,
 }
 
@@ -32,7 +34,11 @@ impl Stats {
     pub fn add(&mut self, kind: u8, samples: &[f32], outcome: &Outcome) {
         let stats = &mut self.kinds[usize::from(kind)];
         stats.answers[outcome.answer] += 1;
-        stats.double_rises += outcome.double_rises;
+        stats.double_rises += outcome.double_rises();
+        outcome
+            .samples
+            .iter()
+            .for_each(|sample| self.met.add(sample));
         if outcome.answer == 6 {
             self.drifts.insert(outcome.index);
         }
@@ -77,6 +83,11 @@ impl Stats {
         }
         Ok(())
     }
+
+    /// A line that says how crossings met resets.
+    pub fn write_met(&self, to: &mut fmt::Formatter) -> fmt::Result {
+        writeln!(to, "{}", self.met)
+    }
 }
 
 /// The runs of indexes that did not come up, below the highest that did.
@@ -101,6 +112,7 @@ impl KindStats {
 impl fmt::Display for Stats {
     fn fmt(&self, to: &mut fmt::Formatter) -> fmt::Result {
         self.write_kinds(to)?;
+        self.write_met(to)?;
         let (records, samples) = (self.records(), self.samples());
         writeln!(
             to,

@@ -9,7 +9,7 @@ use crate::lists::framed::{lists, END_OF_TEXT};
 use crate::lists::{job, refused, Tried, JOB_BYTES};
 
 const BAD_INPUT: &str = "8\n";
-const BAD_RECORD: &str = "7 0 0 0 0 0";
+const BAD_RECORD: &str = "7 0 0 0 0 0 0";
 
 /// The text of each list of a stream, each with its last line.
 pub fn texts(input: &[u8], tried: &mut Tried) -> Result<Vec<u8>, String> {

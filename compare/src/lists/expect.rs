@@ -7,7 +7,7 @@ use crate::calls::expect::held_call;
 use crate::calls::{answer_and_counts, start, Kinds};
 
 const BAD_INPUT: &str = "8\n";
-const BAD_RECORD: &str = "7 0 0 0 0 0";
+const BAD_RECORD: &str = "7 0 0 0 0 0 0";
 
 /// The whole text, a line for each record.
 pub fn text(input: &[u8], tried: &mut Tried) -> Result<String, String> {

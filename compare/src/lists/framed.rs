@@ -110,7 +110,7 @@ mod tests {
     fn a_text_ends_with_its_line() {
         let stream = [&b""[..], b"x", &[0; 64]].map(frame).concat();
         let texts = texts(&stream, &mut Tried::default()).unwrap();
-        assert_eq!(texts, b"-\n8\n-\n0 7 0 0 0 0 0\n-\n");
+        assert_eq!(texts, b"-\n8\n-\n0 7 0 0 0 0 0 0\n-\n");
         assert_eq!(
             first_difference(&stream, &texts, &texts).unwrap(),
             "3 lists, 1 records agree"
@@ -120,14 +120,14 @@ mod tests {
     #[test]
     fn a_text_that_is_missing_further_or_another_is_told() {
         let stream = [&b""[..], &[0; 64], b""].map(frame).concat();
-        let expected = b"-\n0 7 0 0 0 0 0\n-\n-\n";
+        let expected = b"-\n0 7 0 0 0 0 0 0\n-\n-\n";
         for (got, told) in [
-            (&b"-\n0 7 0 0 0 0 0\n-\n"[..], "list 2, record 0 differs"),
-            (b"-\n0 7 0 0 0 0 0\n", "list 1, record 1 differs"),
-            (b"-\n0 7 0 0 0 0 1\n-\n-\n", "list 1, record 0 differs"),
+            (&b"-\n0 7 0 0 0 0 0 0\n-\n"[..], "list 2, record 0 differs"),
+            (b"-\n0 7 0 0 0 0 0 0\n", "list 1, record 1 differs"),
+            (b"-\n0 7 0 0 0 0 0 1\n-\n-\n", "list 1, record 0 differs"),
             (b"-\n-\n-\n", "list 1, record 0 differs"),
             (b"", "list 0, record 0 differs"),
-            (b"-\n0 7 0 0 0 0 0\n-\n-\n-\n", "there is a text past"),
+            (b"-\n0 7 0 0 0 0 0 0\n-\n-\n-\n", "there is a text past"),
         ] {
             let found = first_difference(&stream, expected, got).unwrap_err();
             assert!(found.starts_with(told), "{found}");

@@ -62,13 +62,15 @@ fn every_answer_that_a_kind_can_give_is_there() {
 #[test]
 fn no_two_columns_are_the_same() {
     let answered = answered();
-    for a in 0..6 {
+    for a in 0..7 {
         for b in 0..a {
             assert!(answered.iter().any(|(_, fields)| fields[a] != fields[b]));
         }
     }
     let most = |column: usize| answered.iter().map(|(_, fields)| fields[column]).max();
-    assert!(most(4) > Some(0) && most(5) > Some(0), "falls and cuts");
+    for (column, what) in [(4, "falls"), (5, "cuts"), (6, "late")] {
+        assert!(most(column) > Some(0), "{what}");
+    }
 }
 
 #[test]

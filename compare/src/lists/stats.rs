@@ -16,6 +16,7 @@ pub struct Tried {
 impl fmt::Display for Tried {
     fn fmt(&self, to: &mut fmt::Formatter) -> fmt::Result {
         self.calls.write_kinds(to)?;
+        self.calls.write_met(to)?;
         writeln!(to, "malformed (7): {} records", self.malformed)?;
         writeln!(to, "refused as a whole (8): {} lists", self.bad_inputs)?;
         let records = self.malformed + self.calls.records();

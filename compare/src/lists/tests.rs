@@ -17,7 +17,7 @@ fn lines(list: &[u8]) -> Vec<Vec<usize>> {
     let text = printed(list);
     let lines = text.lines().enumerate().map(|(index, line)| {
         let fields: Vec<usize> = line.split(' ').map(|word| word.parse().unwrap()).collect();
-        assert_eq!((fields.len(), fields[0]), (7, index));
+        assert_eq!((fields.len(), fields[0]), (8, index));
         fields[1..].to_vec()
     });
     lines.collect()
@@ -34,7 +34,7 @@ fn answer(job: &Job) -> usize {
 
 #[test]
 fn the_example_gives_its_three_lines() {
-    let expected = "0 0 0 1 7 0 0\n1 5 0 0 0 0 0\n2 0 0 0 1 0 0\n";
+    let expected = "0 0 0 1 7 0 0 0\n1 5 0 0 0 0 0 0\n2 0 0 0 1 0 0 0\n";
     assert_eq!(printed(&fixed::example().concat()), expected);
 }
 
@@ -59,7 +59,11 @@ fn each_damage_answers_7_and_the_list_goes_on_as_if_it_were_not_there() {
             let lines = lines(&list);
             undamaged.truncate(list.len() / 2);
             for (i, line) in self::lines(&undamaged).iter().enumerate() {
-                assert_eq!(lines[2 * i], [7, 0, 0, 0, 0, 0], "kind {kind}, damage {i}");
+                assert_eq!(
+                    lines[2 * i],
+                    [7, 0, 0, 0, 0, 0, 0],
+                    "kind {kind}, damage {i}"
+                );
                 assert_eq!(&lines[2 * i + 1], line);
             }
         }
@@ -104,7 +108,7 @@ fn block_lengths() {
             set_length(&mut job, length);
             let line = &lines(&job)[0];
             assert_eq!(line[0], expected, "kind {kind}, {length} samples");
-            assert!(line[0] == 0 && length > 0 || line[1..] == [0; 5]);
+            assert!(line[0] == 0 && length > 0 || line[1..] == [0; 6]);
         }
     }
 }
@@ -151,7 +155,7 @@ fn drifts_are_reached_from_the_start() {
     for kind in Kinds::all().list() {
         let lines = lines(&fixed::drifting(kind).concat());
         let drift = &lines[2];
-        assert_eq!(drift[..], [6, 4095, 0, 0, 0, 0], "kind {kind}");
+        assert_eq!(drift[..], [6, 4095, 0, 0, 0, 0, 0], "kind {kind}");
     }
 }
 

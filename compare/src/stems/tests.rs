@@ -75,7 +75,7 @@ fn a_list_can_leave_a_nan_which_is_refused_by_4() {
     let told =
         String::from_utf8(heard::texts(&frame(&jobs.concat()), &mut Tried::default()).unwrap());
     let last = told.unwrap().lines().nth(3).unwrap().to_string();
-    assert_eq!(last, "3 0 0 0 1 0 0 1 7fc00000");
+    assert_eq!(last, "3 0 0 0 1 0 0 0 1 7fc00000");
     assert_eq!(
         answered(&with_rate(48_000, &jobs.concat())),
         Stem::Refused(4)

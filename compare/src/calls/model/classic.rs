@@ -1,9 +1,10 @@
 //! The classic oscillator: eight shapes from one phase, without frequency modulation.
 
+use super::counts::{Counts, Crossing};
 use super::pair::Pair;
 use super::ramp::{Ramp, Room};
 use super::range::{frequency_parameter, frequency_state, phase, unit, FREQUENCY_END};
-use super::render::{Counts, Oscillator};
+use super::render::Oscillator;
 use super::targets::clipped;
 use super::words::{flag, float};
 use crate::calls::record::{Record, FREQUENCY_AT, WIDTH_OR_SHAPE_AT};
@@ -211,7 +212,13 @@ impl Oscillator<2> for Classic {
         self.pw = pw;
     }
 
-    fn sample(&mut self, call: &Record, [frequency, pw]: [f32; 2], _old: f32) -> (f32, Counts) {
+    fn sample(
+        &mut self,
+        call: &Record,
+        [frequency, pw]: [f32; 2],
+        _old: f32,
+        _crossings: &mut Vec<Crossing>,
+    ) -> (f32, Counts) {
         let shape = call.shape();
         let pw = if has_width(shape) { pw } else { 0.5 };
         let mut pair = Pair::due(self.next_sample);

@@ -1,7 +1,8 @@
 //! A second implementation of the six oscillators, with what the port adds to the source: refusals
-//! by number, and the four counts; and the states to start from.
+//! by number, and the counts; and the states to start from.
 
 mod classic;
+mod counts;
 mod nes_triangle;
 mod others;
 mod pair;
@@ -17,8 +18,9 @@ mod variable_shape;
 mod words;
 
 #[cfg(test)]
-pub use render::Counts;
-pub use render::Outcome;
+pub use counts::Counts;
+pub use counts::Edge;
+pub use render::{Outcome, Sample};
 pub use start::start;
 
 use super::record::{Asks, Record, CLASSIC, NES, SAW, SHAPE, STRING, SUPER_SQUARE};

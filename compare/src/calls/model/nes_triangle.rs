@@ -1,9 +1,10 @@
 //! The NES triangle: a triangle in 2^bits steps, which fades to a smooth one at high frequencies.
 
+use super::counts::{Counts, Crossing};
 use super::pair::Pair;
 use super::ramp::{Ramp, Room};
 use super::range::{frequency_parameter, frequency_state, phase, FREQUENCY_END};
-use super::render::{Counts, Oscillator};
+use super::render::Oscillator;
 use super::targets::clipped;
 use super::words::{flag, float};
 use crate::calls::record::{Record, FREQUENCY_AT};
@@ -182,7 +183,13 @@ impl Oscillator<1> for NesTriangle {
         self.frequency = frequency;
     }
 
-    fn sample(&mut self, call: &Record, [frequency]: [f32; 1], _old: f32) -> (f32, Counts) {
+    fn sample(
+        &mut self,
+        call: &Record,
+        [frequency]: [f32; 1],
+        _old: f32,
+        _crossings: &mut Vec<Crossing>,
+    ) -> (f32, Counts) {
         let stairs = Stairs::new(call.bits());
         let mix = stairs.mix(frequency);
         let mut pair = Pair::due(self.next_sample);

@@ -1,6 +1,7 @@
 //! The calls other than `render`: they answer for the state alone, and touch no sample.
 
-use super::render::{Counts, Outcome};
+use super::counts::Counts;
+use super::render::Outcome;
 use crate::calls::record::{Record, GIVEN_AT};
 use crate::starts::{init, set};
 
@@ -23,6 +24,6 @@ fn outcome<const WORDS: usize>((answer, words): (u32, [u32; WORDS])) -> Outcome 
         index: 0,
         counts: Counts::default(),
         words: words.to_vec(),
-        double_rises: 0,
+        samples: Vec::new(),
     }
 }

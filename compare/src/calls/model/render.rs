@@ -1,18 +1,22 @@
 //! What all calls share: the checks in their order, the search for a step outside its room, and the
 //! play of the buffer.
 
+use super::counts::{Counts, Crossing};
 use super::ramp::{first_outside, Ramp};
 use crate::calls::record::Record;
 
 const LONGEST_BLOCK: usize = 4096;
 const DRIFT: usize = 6;
 
-#[derive(Clone, Copy, Debug, Default, PartialEq)]
-pub struct Counts {
-    pub cycles: u32,
-    pub rises: u32,
-    pub falls: u32,
-    pub cuts: u32,
+/// What a sample counted.
+#[derive(Debug)]
+pub struct Sample {
+    pub counts: Counts,
+    /// Those of an oscillator that has sync, in their order; of others none are kept.
+    pub crossings: Vec<Crossing>,
+    /// The state that it left, save for the interpolated fields.
+    #[cfg(test)]
+    pub words: Vec<u32>,
 }
 
 /// What a call gives back, beside the samples.
@@ -23,8 +27,17 @@ pub struct Outcome {
     pub index: usize,
     pub counts: Counts,
     pub words: Vec<u32>,
-    /// How many samples have a rise, a fall and a rise.
-    pub double_rises: usize,
+    /// What each sample counted, where the call is answered.
+    pub samples: Vec<Sample>,
+}
+
+impl Outcome {
+    /// How many samples have a rise, a fall and a rise, late or not.
+    pub fn double_rises(&self) -> usize {
+        let crossed = |sample: &Sample| (sample.counts.all_rises(), sample.counts.all_falls());
+        let crossed = self.samples.iter().map(crossed);
+        crossed.filter(|&both| both == (2, 1)).count()
+    }
 }
 
 /// One oscillator: its state, of which `RAMPS` fields are interpolated.
@@ -38,8 +51,15 @@ pub trait Oscillator<const RAMPS: usize>: Copy {
     fn ramps(&self, call: &Record) -> [Ramp; RAMPS];
     /// Puts the interpolated fields back.
     fn store(&mut self, values: [f32; RAMPS]);
-    /// One sample, from this sample's steps and what the buffer held.
-    fn sample(&mut self, call: &Record, steps: [f32; RAMPS], old: f32) -> (f32, Counts);
+    /// One sample, from this sample's steps and what the buffer held; an oscillator that has sync
+    /// also tells its crossings.
+    fn sample(
+        &mut self,
+        call: &Record,
+        steps: [f32; RAMPS],
+        old: f32,
+        crossings: &mut Vec<Crossing>,
+    ) -> (f32, Counts);
 
     fn registration_fits(_call: &Record) -> bool {
         true
@@ -62,7 +82,7 @@ pub fn render<O: Oscillator<N>, const N: usize>(call: &Record, out: &mut [f32]) 
             index,
             counts: Counts::default(),
             words,
-            double_rises: 0,
+            samples: Vec::new(),
         },
     }
 }
@@ -100,16 +120,19 @@ fn checked<O: Oscillator<N>, const N: usize>(
 fn play<O: Oscillator<N>, const N: usize>(mut state: O, call: &Record, out: &mut [f32]) -> Outcome {
     let mut ramps = state.ramps(call);
     let mut sum = Counts::default();
-    let mut double_rises = 0;
+    let mut samples = Vec::with_capacity(out.len());
     for place in out.iter_mut() {
         let steps = ramps.each_mut().map(Ramp::step);
-        let (sample, counts) = state.sample(call, steps, *place);
-        *place = sample;
-        sum.cycles += counts.cycles;
-        sum.rises += counts.rises;
-        sum.falls += counts.falls;
-        sum.cuts += counts.cuts;
-        double_rises += usize::from(counts.rises == 2 && counts.falls == 1);
+        let mut crossings = Vec::new();
+        let (heard, counts) = state.sample(call, steps, *place, &mut crossings);
+        *place = heard;
+        sum.add(&counts);
+        samples.push(Sample {
+            counts,
+            crossings,
+            #[cfg(test)]
+            words: state.to_words(),
+        });
     }
     state.store(ramps.map(|ramp| ramp.value));
     Outcome {
@@ -117,6 +140,6 @@ fn play<O: Oscillator<N>, const N: usize>(mut state: O, call: &Record, out: &mut
         index: 0,
         counts: sum,
         words: state.to_words(),
-        double_rises,
+        samples,
     }
 }

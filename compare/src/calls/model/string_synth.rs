@@ -1,9 +1,10 @@
 //! The string synth: four saws an octave apart from one phase, added to what the buffer holds.
 
+use super::counts::{Counts, Crossing};
 use super::pair::Pair;
 use super::ramp::{Ramp, Room};
 use super::range::*;
-use super::render::{Counts, Oscillator};
+use super::render::Oscillator;
 use super::words::float;
 use crate::calls::record::{Record, FREQUENCY_AT, MASTER_OR_GAIN_AT};
 
@@ -168,7 +169,13 @@ impl Oscillator<5> for StringSynth {
         self.saw_1_gain = saw_1;
     }
 
-    fn sample(&mut self, _call: &Record, steps: [f32; 5], old: f32) -> (f32, Counts) {
+    fn sample(
+        &mut self,
+        _call: &Record,
+        steps: [f32; 5],
+        old: f32,
+        _crossings: &mut Vec<Crossing>,
+    ) -> (f32, Counts) {
         let [frequency, saw_8, saw_4, saw_2, saw_1] = steps;
         let mut pair = Pair::due(self.next_sample);
         self.phase += frequency;

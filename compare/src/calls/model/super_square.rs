@@ -1,9 +1,10 @@
 //! The super square: two square waves, the slave's phase reset by the master's.
 
+use super::counts::{Counts, Crossing, Edge};
 use super::pair::Pair;
 use super::ramp::{Ramp, Room};
 use super::range::{frequency_parameter, frequency_state, phase, unit, FREQUENCY_END};
-use super::render::{Counts, Oscillator};
+use super::render::Oscillator;
 use super::targets::clipped;
 use super::words::{flag, float};
 use crate::calls::record::{Record, FREQUENCY_AT, WIDTH_OR_SHAPE_AT};
@@ -64,18 +65,21 @@ impl SuperSquare {
         })
     }
 
-    /// Rises at half a cycle and falls at a whole one, as long as there is one to come.
-    fn cross(&mut self, slave: f32, pair: &mut Pair, counts: &mut Counts) {
+    /// Rises at half a cycle and falls at a whole one, as long as there is one to come. Each is told
+    /// by its edge and its t.
+    fn cross(&mut self, slave: f32, pair: &mut Pair, mut tell: impl FnMut(Edge, f32)) {
         loop {
             if !self.high && self.slave_phase >= 0.5 {
-                pair.jump(1.0, (self.slave_phase - 0.5) / slave);
+                let t = (self.slave_phase - 0.5) / slave;
+                pair.jump(1.0, t);
                 self.high = true;
-                counts.rises += 1;
+                tell(Edge::Rise, t);
             } else if self.high && self.slave_phase >= 1.0 {
                 self.slave_phase -= 1.0;
-                pair.jump(-1.0, self.slave_phase / slave);
+                let t = self.slave_phase / slave;
+                pair.jump(-1.0, t);
                 self.high = false;
-                counts.falls += 1;
+                tell(Edge::Fall, t);
             } else {
                 return;
             }
@@ -133,14 +137,23 @@ impl Oscillator<2> for SuperSquare {
         self.slave_frequency = slave;
     }
 
-    fn sample(&mut self, _call: &Record, [master, slave]: [f32; 2], _old: f32) -> (f32, Counts) {
-        let mut counts = Counts::default();
+    fn sample(
+        &mut self,
+        _call: &Record,
+        [master, slave]: [f32; 2],
+        _old: f32,
+        crossings: &mut Vec<Crossing>,
+    ) -> (f32, Counts) {
         let mut pair = Pair::due(self.next_sample);
         let reset = self.advance_master(master, slave, &mut pair);
         self.slave_phase += slave;
         if reset.is_none_or(|reset| reset.crosses) {
-            self.cross(slave, &mut pair, &mut counts);
+            let reset_time = reset.map(|reset| reset.time);
+            self.cross(slave, &mut pair, |edge, t| {
+                crossings.push(Crossing::new(edge, t, reset_time));
+            });
         }
+        let mut counts = Counts::of(crossings);
         if let Some(reset) = reset {
             counts.cycles = 1;
             counts.cuts = u32::from(self.high);

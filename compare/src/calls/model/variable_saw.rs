@@ -1,9 +1,10 @@
 //! The variable saw: a saw with a notch at one end of its shape, a triangle at the other.
 
+use super::counts::{Counts, Crossing};
 use super::pair::Pair;
 use super::ramp::{Ramp, Room};
 use super::range::*;
-use super::render::{Counts, Oscillator};
+use super::render::Oscillator;
 use super::targets::{clipped, fitting_width};
 use super::words::{flag, float};
 use crate::calls::record::{Record, FREQUENCY_AT, WAVESHAPE_AT, WIDTH_OR_SHAPE_AT};
@@ -140,7 +141,13 @@ impl Oscillator<3> for VariableSaw {
         self.waveshape = waveshape;
     }
 
-    fn sample(&mut self, _call: &Record, steps: [f32; 3], _old: f32) -> (f32, Counts) {
+    fn sample(
+        &mut self,
+        _call: &Record,
+        steps: [f32; 3],
+        _old: f32,
+        _crossings: &mut Vec<Crossing>,
+    ) -> (f32, Counts) {
         let wave = Wave::new(steps);
         let mut counts = Counts::default();
         let mut pair = Pair::due(self.next_sample);

@@ -1,9 +1,10 @@
 //! The variable shape: triangle, saw and square in one, its phase reset by a master's on demand.
 
+use super::counts::{Counts, Crossing, Edge};
 use super::pair::Pair;
 use super::ramp::{Ramp, Room};
 use super::range::*;
-use super::render::{Counts, Oscillator};
+use super::render::Oscillator;
 use super::targets::{clipped, fitting_width};
 use super::words::{flag, float};
 use crate::calls::record::*;
@@ -97,8 +98,9 @@ impl VariableShape {
         })
     }
 
-    /// Rises at the pulse width and falls at a whole cycle, as long as there is one to come.
-    fn cross(&mut self, wave: &Wave, pair: &mut Pair, counts: &mut Counts) {
+    /// Rises at the pulse width and falls at a whole cycle, as long as there is one to come. Each is
+    /// told by its edge and its t.
+    fn cross(&mut self, wave: &Wave, pair: &mut Pair, mut tell: impl FnMut(Edge, f32)) {
         loop {
             if !self.high && self.slave_phase >= wave.pw {
                 let moved = self.previous_pw - wave.pw + wave.frequency;
@@ -106,14 +108,14 @@ impl VariableShape {
                 pair.jump(wave.square, t);
                 pair.bend(-wave.corner(), t);
                 self.high = true;
-                counts.rises += 1;
+                tell(Edge::Rise, t);
             } else if self.high && self.slave_phase >= 1.0 {
                 self.slave_phase -= 1.0;
                 let t = self.slave_phase / wave.frequency;
                 pair.jump(-(1.0 - wave.triangle), t);
                 pair.bend(wave.corner(), t);
                 self.high = false;
-                counts.falls += 1;
+                tell(Edge::Fall, t);
             } else {
                 return;
             }
@@ -221,10 +223,15 @@ impl Oscillator<5> for VariableShape {
         self.phase_modulation = modulation;
     }
 
-    fn sample(&mut self, call: &Record, steps: [f32; 5], _old: f32) -> (f32, Counts) {
+    fn sample(
+        &mut self,
+        call: &Record,
+        steps: [f32; 5],
+        _old: f32,
+        crossings: &mut Vec<Crossing>,
+    ) -> (f32, Counts) {
         let [master, slave, pw, waveshape, modulation] = steps;
         let wave = Wave::new(slave, pw, waveshape);
-        let mut counts = Counts::default();
         let mut pair = Pair::due(self.next_sample);
         let reset = match call.sync() {
             true => self.advance_master(master, &wave, &mut pair),
@@ -232,8 +239,12 @@ impl Oscillator<5> for VariableShape {
         };
         self.slave_phase += slave;
         if reset.is_none_or(|reset| reset.crosses) {
-            self.cross(&wave, &mut pair, &mut counts);
+            let reset_time = reset.map(|reset| reset.time);
+            self.cross(&wave, &mut pair, |edge, t| {
+                crossings.push(Crossing::new(edge, t, reset_time));
+            });
         }
+        let mut counts = Counts::of(crossings);
         if let Some(reset) = reset {
             counts.cuts = u32::from(self.high);
             self.slave_phase = reset.time * slave;
