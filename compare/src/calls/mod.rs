@@ -20,4 +20,8 @@ pub use record::{CLASSIC, SHAPE};
 #[cfg(test)]
 mod classic_tests;
 #[cfg(test)]
+mod late_tests;
+#[cfg(test)]
 mod tests;
+#[cfg(test)]
+pub mod wrong_rules;

@@ -139,34 +139,6 @@ fn nes_bits_outside_are_read_as_16_for_the_state() {
     assert_eq!(answer(1, 2), 3);
 }
 
-/// Where `high` stands in a state that has it.
-fn high(kind: u8) -> Option<usize> {
-    match kind {
-        SHAPE => Some(4),
-        SAW | SUPER_SQUARE => Some(3),
-        CLASSIC => Some(4),
-        _ => None,
-    }
-}
-
-#[test]
-fn rises_less_falls_and_cuts_are_the_change_of_high() {
-    for record in super::make::records(4000, 3, &Kinds::all()) {
-        let Some(high) = high(record.kind()) else {
-            continue;
-        };
-        if record.length() > LONGEST_TRIED || record.asks() != Asks::Render {
-            continue;
-        }
-        let outcome = call(&record);
-        let counts = outcome.counts;
-        let change = i64::from(outcome.words[high]) - i64::from(record.state_words()[high]);
-        let balance =
-            i64::from(counts.all_rises()) - i64::from(counts.all_falls()) - i64::from(counts.cuts);
-        assert_eq!(balance, change);
-    }
-}
-
 /// The wraps of the phase and the changes of `high` or step that one sample's states show.
 fn read_off(record: &Record, before: &[u32], after: &[u32]) -> (u32, u32) {
     let went_back = |word: usize| f32::from_bits(after[word]) < f32::from_bits(before[word]);

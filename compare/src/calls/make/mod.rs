@@ -1,5 +1,5 @@
-//! Lists of call records: first fixed ones (figures, block lengths, every boundary), then random
-//! ones whose states come from chains of calls and from set-ups made by hand.
+//! Lists of call records: first fixed ones (figures, block lengths, every boundary, crossings beside
+//! a reset), then random ones whose states come from chains of calls and from set-ups made by hand.
 
 mod beside;
 mod chains;
@@ -8,6 +8,8 @@ pub mod drifts;
 pub mod fields;
 pub mod figures;
 pub mod fixed;
+pub mod late;
+mod meetings;
 mod others;
 pub mod setups;
 
@@ -23,11 +25,15 @@ const NO_KINDS: [u8; 4] = [0, 7, 8, 255];
 const RECORDED: usize = 300;
 const RECORDED_SEED: u64 = 2;
 
-/// A list of `count` records, most of the kinds named, some of others.
+/// A list of `count` records, most of the kinds named, some of others. In some random ones a crossing
+/// meets a reset: these are no part of a chain, so that a seed's other records do not hang on them.
 pub fn records(count: usize, seed: u64, kinds: &Kinds) -> Vec<Record> {
     let mut records: Vec<Record> = kinds.list().into_iter().flat_map(fixed::records).collect();
+    records.extend(kinds.list().into_iter().flat_map(late::records));
     records.truncate(count);
-    records.extend(random(count - records.len(), seed, kinds));
+    let mut meeting = Random::new(!seed);
+    let random = random(count - records.len(), seed, kinds).into_iter();
+    records.extend(random.map(|record| meetings::sometimes(record, &mut meeting)));
     records
 }
 
@@ -41,13 +47,16 @@ pub fn drifting(tries: u64, seed: u64) -> Vec<Record> {
 }
 
 /// The records of crates/calls: for each kind all fixed ones, those beside a turning point, and some
-/// random ones.
+/// random ones; then for each kind those with a crossing beside a reset.
 pub fn recorded() -> Vec<Record> {
     let of_kind = |kind: u8| {
         let random = random(RECORDED, RECORDED_SEED, &Kinds::one(kind));
         [fixed::records(kind), beside::beside(kind), random].concat()
     };
-    Kinds::all().list().into_iter().flat_map(of_kind).collect()
+    let kinds = Kinds::all().list();
+    let mut records: Vec<Record> = kinds.iter().copied().flat_map(of_kind).collect();
+    records.extend(kinds.into_iter().flat_map(late::records));
+    records
 }
 
 fn random(count: usize, seed: u64, kinds: &Kinds) -> Vec<Record> {

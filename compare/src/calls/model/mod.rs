@@ -19,7 +19,7 @@ mod words;
 
 #[cfg(test)]
 pub use counts::Counts;
-pub use counts::Edge;
+pub use counts::{Crossing, Edge};
 pub use render::{Outcome, Sample};
 pub use start::start;
 

@@ -14,7 +14,7 @@ pub struct Sample {
     pub counts: Counts,
     /// Those of an oscillator that has sync, in their order; of others none are kept.
     pub crossings: Vec<Crossing>,
-    /// The state that it left, save for the interpolated fields.
+    /// The state that it left, in which the interpolated fields hold its steps.
     #[cfg(test)]
     pub words: Vec<u32>,
 }
@@ -126,6 +126,7 @@ fn play<O: Oscillator<N>, const N: usize>(mut state: O, call: &Record, out: &mut
         let mut crossings = Vec::new();
         let (heard, counts) = state.sample(call, steps, *place, &mut crossings);
         *place = heard;
+        state.store(steps);
         sum.add(&counts);
         samples.push(Sample {
             counts,
@@ -134,7 +135,6 @@ fn play<O: Oscillator<N>, const N: usize>(mut state: O, call: &Record, out: &mut
             words: state.to_words(),
         });
     }
-    state.store(ramps.map(|ramp| ramp.value));
     Outcome {
         answer: 0,
         index: 0,
