@@ -1,5 +1,7 @@
 /* Answers call records through navuloqu.h, as crates/calls does. compare/src/calls/record.rs has a record's fields, compare/README.md its
  * line. */
+#include <assert.h>
+
 #include "around.h"
 #include "lines.h"
 
@@ -142,7 +144,8 @@ static uint32_t checksum(size_t count)
 static void put_outcome(char line[LINE_ROOM], uint32_t answer, size_t words, size_t count)
 {
     static const int counted[] = {NAVULOQU_RESULT_DRIFT_INDEX, NAVULOQU_RESULT_CYCLES, NAVULOQU_RESULT_RISES, NAVULOQU_RESULT_FALLS,
-                                  NAVULOQU_RESULT_CUTS};
+                                  NAVULOQU_RESULT_CUTS,        NAVULOQU_RESULT_LATE};
+    static_assert(1 + sizeof counted / sizeof *counted == NAVULOQU_RESULT_WORDS, "each word of the result is told");
     const uint32_t sum = checksum(count);
     size_t at = answer == result[NAVULOQU_RESULT_ANSWER] ? put_number(line, 0, answer) : put_text(line, 0, "? ");
     for (size_t i = 0; i < sizeof counted / sizeof *counted; i++)

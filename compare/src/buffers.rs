@@ -6,12 +6,14 @@ use crate::oscillator::string_synth_oscillator::StringSynthOscillator;
 use crate::random::Random;
 
 const WORDS: usize = 8;
+/// Answer, index, cycles, rises, falls, cuts, late.
+const RESULT_WORDS: usize = 7;
 
 // The archive's names carry the version of include/navuloqu.h, whose declarations these are.
 extern "C" {
-    #[link_name = "navuloqu_2_string_synth_init"]
+    #[link_name = "navuloqu_3_string_synth_init"]
     fn navuloqu_string_synth_init(state: *mut [u32; WORDS]);
-    #[link_name = "navuloqu_2_string_synth_render"]
+    #[link_name = "navuloqu_3_string_synth_render"]
     fn navuloqu_string_synth_render(
         state: *mut [u32; WORDS],
         frequency: f32,
@@ -20,7 +22,7 @@ extern "C" {
         gain: f32,
         out: *mut f32,
         count: usize,
-        result: *mut [u32; 6],
+        result: *mut [u32; RESULT_WORDS],
     ) -> u32;
 }
 
@@ -65,7 +67,7 @@ pub fn compare(count: u64, seed: u64) -> Result<String, String> {
 
         let (mut got, mut expected) = (given.clone(), given.clone());
         let mut original = StringSynthOscillator::from_words(&words);
-        let (before, mut result) = (words, [0; 6]);
+        let (before, mut result) = (words, [0; RESULT_WORDS]);
         let answer = unsafe {
             navuloqu_string_synth_render(
                 &mut words,

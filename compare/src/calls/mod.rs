@@ -5,10 +5,10 @@ pub mod expect;
 mod kinds;
 mod line;
 pub mod make;
-mod model;
+pub mod model;
 mod original;
 pub mod record;
-mod resets;
+pub mod resets;
 pub mod stats;
 
 pub use kinds::Kinds;

@@ -84,9 +84,12 @@ impl Stats {
         Ok(())
     }
 
-    /// A line that says how crossings met resets.
+    /// A line that says how crossings met resets, where there was a sample to do so.
     pub fn write_met(&self, to: &mut fmt::Formatter) -> fmt::Result {
-        writeln!(to, "{}", self.met)
+        match self.samples() {
+            0 => Ok(()),
+            _ => writeln!(to, "{}", self.met),
+        }
     }
 }
 

@@ -1,5 +1,5 @@
 //! The lists that are recorded beside the program `heard`: short blocks under settings that all
-//! differ, so that a number which is handed to a call in another's place is heard.
+//! differ, so that a number which is handed to a call in another's place is heard; and late crossings.
 
 use crate::calls::make::fields::settings;
 use crate::calls::record::*;
@@ -7,6 +7,7 @@ use crate::calls::Kinds;
 use crate::lists::framed::frame;
 use crate::lists::job::{job, Job};
 use crate::lists::make::damage::{set_length, set_word};
+use crate::lists::make::late;
 
 const BLOCKS: [u16; 8] = [29, 16, 41, 7, 33, 1, 24, 50];
 /// The classic's shapes: each is played after another than the one of the number before it.
@@ -27,6 +28,7 @@ pub fn lists() -> Vec<Vec<u8>> {
     lists.push(in_turns(&kinds).concat());
     lists.push(Vec::new());
     lists.push(vec![0; 65]);
+    lists.extend(kinds.into_iter().flat_map(late::lists));
     lists
 }
 

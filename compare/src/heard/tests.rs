@@ -5,7 +5,7 @@ use super::expect::text;
 use super::make::lists;
 use crate::calls::record::*;
 use crate::calls::Kinds;
-use crate::lists::{refused, Tried, JOB_BYTES};
+use crate::lists::{self, refused, Tried, JOB_BYTES};
 use std::collections::BTreeSet;
 
 fn texts(handing: impl Fn(&mut Record)) -> Vec<String> {
@@ -138,6 +138,22 @@ fn a_state_that_is_not_carried_changes_a_line() {
         });
         assert!(got != right, "kind {kind}");
     }
+}
+
+#[test]
+fn a_line_begins_with_what_the_renderer_prints_and_some_crossings_are_late() {
+    let mut late = 0;
+    for (list, text) in lists().iter().zip(texts(|_| ())) {
+        let printed = lists::expect::text(list, &mut Tried::default()).unwrap();
+        assert_eq!(text.lines().count(), printed.lines().count());
+        for (line, begin) in text.lines().zip(printed.lines()) {
+            let rest = line.strip_prefix(begin).unwrap();
+            let further = rest.split_whitespace().count();
+            assert_eq!(further, if refused(list) { 0 } else { 2 });
+            late += u32::from(begin.split(' ').nth(7).is_some_and(|late| late != "0"));
+        }
+    }
+    assert!(late >= 6, "{late} records with late crossings");
 }
 
 #[test]

@@ -11,6 +11,8 @@ pub use job::JOB_BYTES;
 pub use stats::Tried;
 
 #[cfg(test)]
+mod late_tests;
+#[cfg(test)]
 mod recorded_tests;
 #[cfg(test)]
 mod tests;

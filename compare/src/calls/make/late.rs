@@ -13,6 +13,8 @@ pub type Shows = &'static [(Edge, Meets)];
 /// Phase and step of the master, phase and step of the slave, the width before and this sample's, and
 /// `high`.
 type Numbers = ([f32; 2], [f32; 2], [f32; 2], u32);
+/// The same of the super square, whose shape stands in the place of the widths.
+type SquareNumbers = ([f32; 2], [f32; 2], f32, u32);
 
 const SYNC: u8 = 1;
 /// 2^-19: a small part of it is rounded away beside 0.75.
@@ -21,7 +23,8 @@ const TINY: f32 = 1.0 / 524_288.0;
 /// The variable shape with sync, in one sample. Its steps are those that the state holds.
 #[rustfmt::skip]
 const SHAPES: [(Shows, Numbers); 16] = [
-    // The width came down past the phase: t = 0.125 / 0.5, the reset time 0.125 / 0.25. The cut is due to this rise alone.
+    // The width came down past the phase: t = 0.125 / 0.5; the reset time 0.125 / 0.25. The cut is due
+    // to this rise alone.
     (&[(Rise, After)], ([0.875, 0.25], [0.25, 0.125], [0.625, 0.25], 0)),
     // t = 0.28125 / 0.125, then 0.03125 / 0.125; the reset time 0.5.
     (&[(Rise, Before), (Fall, After)], ([0.875, 0.25], [0.90625, 0.125], [0.75, 0.75], 0)),
@@ -34,13 +37,14 @@ const SHAPES: [(Shows, Numbers); 16] = [
     (&[(Rise, At)], ([0.875, 0.25], [0.1875, 0.125], [0.25, 0.25], 0)),
     (&[(Rise, At)], ([0.75, 0.25], [0.125, 0.125], [0.25, 0.25], 0)),
     (&[(Rise, At)], ([0.75, 0.25], [0.375, 0.125], [0.25, 0.5], 0)),
-    // The phase was past the width, which moved by more than the step: t = 0.125 / -0.25; the reset time 0.5, 0, none.
+    // The phase was past the width, which moved by more than the step: t = 0.125 / -0.25; the reset
+    // time 0.5, 0, and none.
     (&[(Rise, Negative)], ([0.875, 0.25], [0.5, 0.125], [0.125, 0.5], 0)),
     (&[(Rise, Negative)], ([0.75, 0.25], [0.5, 0.125], [0.125, 0.5], 0)),
     (&[(Rise, NegativeWithoutReset)], ([0.25, 0.25], [0.5, 0.125], [0.125, 0.5], 0)),
     // The width moved by the step, and the phase is at it: t = 0 / 0; the reset time 0 and 2^-7.
     (&[(Rise, Nan)], ([0.75, 0.25], [0.375, 0.125], [0.375, 0.5], 0)),
-    (&[(Rise, Nan)], ([0.751953125, 0.25], [0.75 - TINY, TINY], [0.75 - TINY, 0.75], 0)),
+    (&[(Rise, Nan)], ([0.75 + 1.0 / 512.0, 0.25], [0.75 - TINY, TINY], [0.75 - TINY, 0.75], 0)),
     // The width moved by the step, and the phase is past it: t is infinite; the reset time 0.5.
     (&[(Rise, Before)], ([0.875, 0.25], [0.4375, 0.125], [0.375, 0.5], 0)),
     // By rounding t is a few floats below the reset time. These numbers were found by search.
@@ -48,11 +52,11 @@ const SHAPES: [(Shows, Numbers); 16] = [
     (&[(Fall, After)], ([0.9072813, 0.138], [0.8320313, 0.25], [0.5, 0.5], 1)),
 ];
 
-/// The same in the first of two samples: the slave's step goes from 15/64 to 1/64, so that it is 1/8 here, and the pulse is
-/// narrower than that.
+/// The same in the first of two samples: the slave's step goes from 15/64 to 1/64, so that it is 1/8
+/// here, more than the width.
 #[rustfmt::skip]
 const NARROW: [(Shows, Numbers); 4] = [
-    // t = 0.078125 / 0.125, then 0.046875 / 0.125; the reset time 0.5, and the cut is due to the late rise.
+    // t = 0.078125 / 0.125, then 0.046875 / 0.125; the reset time 0.5. The cut is due to the late rise.
     (&[(Fall, Before), (Rise, After)], ([0.875, 0.25], [0.953125, 0.234375], [0.03125, 0.03125], 1)),
     // t = 1.046875 / 0.125 before these.
     (&[(Rise, Before), (Fall, Before), (Rise, After)], ([0.875, 0.25], [0.953125, 0.234375], [0.03125, 0.03125], 0)),
@@ -63,10 +67,10 @@ const NARROW: [(Shows, Numbers); 4] = [
 ];
 const NARROW_TARGET: f32 = 0.015625;
 
-/// The super square in one sample: phase and step of the master and of the slave, shape, `high`. A late rise is one by rounding:
-/// the width is half a cycle, so that the slave does not reach it again after a fall, and it is not late where a fall follows.
+/// The super square in one sample. Its width is half a cycle, more than a step, and stands still: so t
+/// is never negative or NaN, and a rise is late by rounding alone.
 #[rustfmt::skip]
-const SQUARES: [(Shows, ([f32; 2], [f32; 2], f32, u32)); 8] = [
+const SQUARES: [(Shows, SquareNumbers); 8] = [
     // t = 0.53125 / 0.125, then 0.03125 / 0.125; the reset time 0.5.
     (&[(Rise, Before), (Fall, After)], ([0.9375, 0.125], [0.90625, 0.125], 0.5, 0)),
     // Master and slave in step, high and low.
@@ -134,7 +138,7 @@ fn narrow(mut record: Record) -> Record {
     record
 }
 
-fn square((master, slave, shape, high): ([f32; 2], [f32; 2], f32, u32)) -> Record {
+fn square((master, slave, shape, high): SquareNumbers) -> Record {
     let mut record = plain(SUPER_SQUARE);
     record.set_length(1);
     record.set_float(FREQUENCY_AT, master[1]);

@@ -1,7 +1,7 @@
 //! The lists that are made whatever the seed is.
 
 use super::damage::{malformed, set_length, set_word, with_steps};
-use super::{runs, sound};
+use super::{late, runs, sound};
 use crate::calls::make::drifts::drifts;
 use crate::calls::make::fields::{choices, frequencies, settings, Field, Holds};
 use crate::calls::record::*;
@@ -34,6 +34,7 @@ pub fn lists() -> Vec<Vec<u8>> {
     }
     lists.push(depths().concat());
     lists.push(most_work().concat());
+    lists.extend(Kinds::all().list().into_iter().flat_map(late::lists));
     lists
 }
 

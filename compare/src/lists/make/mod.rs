@@ -3,6 +3,8 @@
 pub mod changes;
 pub mod damage;
 pub mod fixed;
+pub mod late;
+mod meetings;
 pub mod recorded;
 mod runs;
 pub mod starts;

@@ -5,7 +5,7 @@ use super::damage::{bad_step_counts, set_word, unused, with_steps};
 use super::fixed::{
     at_ends, between_sound_ones, depths, drifting, example, faults, of_size, several_faults,
 };
-use super::{changes, runs, sound, starts, ways};
+use super::{changes, late, runs, sound, starts, ways};
 use crate::calls::make::fields::{settings, Holds};
 use crate::calls::record::*;
 use crate::calls::Kinds;
@@ -32,6 +32,7 @@ pub fn lists() -> Vec<Vec<u8>> {
     }
     let all = Kinds::all().list();
     lists.push(runs::run(&all, 2 * RUN, &mut Random::new(0)).concat());
+    lists.extend(all.into_iter().flat_map(late::lists));
     lists
 }
 

@@ -1,7 +1,8 @@
 //! Random lists: runs of records whose settings are kept or changed, so that states are carried
-//! far, with refused records among them; and noise.
+//! far, with refused records among them; runs in which crossings and resets meet; and noise.
 
 use super::damage::{damage, set_word, unused};
+use super::meetings;
 use crate::calls::make::fields::choices;
 use crate::calls::make::fixed::plain;
 use crate::calls::make::setups::choose_settings;
@@ -18,6 +19,7 @@ pub fn list(random: &mut Random) -> Vec<u8> {
     let jobs = match random.below(8) {
         0 => (0..length).map(|_| noise(random)).collect(),
         1..=3 => run(&[random.pick(&ALL)], length, random),
+        4 => meetings::run(length, random),
         _ => run(&ALL, length, random),
     };
     let mut list = jobs.concat();
