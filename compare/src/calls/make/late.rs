@@ -1,6 +1,6 @@
 //! Calls whose first sample has a crossing beside a reset: before it, at it, or late; and such whose
-//! sample has no reset. Each begins with what it shows. Save where rounding is said to decide, no
-//! operation rounds, so that t and the reset time can be worked out by hand.
+//! sample has no reset. Each begins with what it shows. Save where rounding is said to decide, no sum of
+//! phases, widths and steps rounds, so that t and the reset time can be worked out by hand.
 
 use super::fixed::plain;
 use crate::calls::model::Edge::{self, Fall, Rise};
