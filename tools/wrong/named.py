@@ -24,6 +24,24 @@ def numbers():
 SHAPE, SAW, SQUARE = "calls/model/variable_shape.rs", "calls/model/variable_saw.rs", "calls/model/super_square.rs"
 NES, STRING, RENDER = "calls/model/nes_triangle.rs", "calls/model/string_synth.rs", "calls/model/render.rs"
 CLASSIC, INIT = "calls/model/classic.rs", "starts/init.rs"
+COUNTS = "calls/model/counts.rs"
+
+
+def lateness():
+    """What is late, and which crossings are counted."""
+    late = "self.reset_time.is_some_and(|time| self.t < time)"
+    yield (COUNTS, late, "no reset is one at 0", "self.t < self.reset_time.unwrap_or(0.0)")
+    yield (COUNTS, late, "NaN is late", "self.reset_time.is_some_and(|time| !(self.t >= time))")
+    yield (COUNTS, late, "a negative t is not late", "self.reset_time.is_some_and(|time| self.t < time) && self.t >= 0.0")
+    yield (COUNTS, late, "none is late", "false")
+    yield (COUNTS, late, "each of a reset is late", "self.reset_time.is_some()")
+    for file in (SHAPE, SQUARE):
+        told = "crossings.push(Crossing::new(edge, t, reset_time))"
+        yield (file, told, "one crossing at most", "if crossings.is_empty() { crossings.push(Crossing::new(edge, t, reset_time)) }")
+        yield (file, told, "judged by the first one's t", "{ let t = crossings.first().map_or(t, |c| c.t); crossings.push(Crossing::new(edge, t, reset_time)) }")
+        yield (file, "reset.map(|reset| reset.time)", "the reset taken as one at 0", "reset.map(|_| 0.0)")
+        yield (file, "counts.cuts = u32::from(self.high)", "no cut after a late rise", "counts.cuts = u32::from(self.high && counts.late_rises == 0)")
+
 
 SHAPE_SETTINGS = """frequency_parameter(call.float(FREQUENCY_AT))
             && frequency_parameter(call.float(MASTER_OR_GAIN_AT))
@@ -67,7 +85,7 @@ NAMED = [
     (SHAPE, "u32::from(reset.is_some())", "cycles with sync are falls too", "u32::from(reset.is_some()) + counts.falls"),
     (SHAPE, "counts.cuts = u32::from(self.high)", "a cut for every reset", "counts.cuts = 1"),
     (SQUARE, "counts.cuts = u32::from(self.high)", "a cut for every reset", "counts.cuts = 1"),
-    (SHAPE, "self.cross(&wave, &mut pair, &mut counts)", "one crossing at most", "if counts.rises + counts.falls == 0 { let mut c = *self; c.cross(&wave, &mut pair, &mut counts); counts.rises = counts.rises.min(1); *self = c }"),
+    *lateness(),
     (SHAPE, "clipped(call.float(MASTER_OR_GAIN_AT))", "the master not clipped", "call.float(MASTER_OR_GAIN_AT)"),
     (SHAPE, "clipped(call.float(FREQUENCY_AT))", "the slave not clipped", "call.float(FREQUENCY_AT)"),
     (SHAPE, "fitting_width(call.float(WIDTH_OR_SHAPE_AT), slave)", "the width fitted to the master", "fitting_width(call.float(WIDTH_OR_SHAPE_AT), master)"),

@@ -19,11 +19,17 @@ NEAR_ZERO = "the number compared is 0 or at least 2^-40"
 
 NES, PAIR, RAMP, STRING = "calls/model/nes_triangle.rs", "calls/model/pair.rs", "calls/model/ramp.rs", "calls/model/string_synth.rs"
 SQUARE_WAVE, SAW, SHAPE = "calls/model/super_square.rs", "calls/model/variable_saw.rs", "calls/model/variable_shape.rs"
-CLASSIC, INIT = "calls/model/classic.rs", "starts/init.rs"
+CLASSIC, COUNTS, INIT = "calls/model/classic.rs", "calls/model/counts.rs", "starts/init.rs"
 TARGETS, RENDER, LEAVES = "calls/model/targets.rs", "calls/model/render.rs", "leaves/answers.rs"
+
+TOGETHER = "late rises and late falls are told together"
 
 # (file, what, part of the old text, part of the new text, reason)
 REASONS = [
+    (COUNTS, "another count", "&mut counts.late_rises", "&mut counts.late_falls", TOGETHER),
+    (COUNTS, "another count", "&mut counts.late_falls", "&mut counts.late_rises", TOGETHER),
+    (COUNTS, "another count", "self.late_rises += other.late_rises", "self.late_falls += other.late_rises", TOGETHER),
+    (COUNTS, "another count", "self.late_falls += other.late_falls", "self.late_rises += other.late_falls", TOGETHER),
     (NES, "", "* 2.0 * count", "(2.0 * count)", EXACT),
     (NES, "", "* 2.0 * count", "* count * 2.0", EXACT),
     (NES, "distributed", "* 2.0 * count", "frequency * 2.0", EXACT),

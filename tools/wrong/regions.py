@@ -67,7 +67,7 @@ def bodies(ts):
 
 class Finder:
     # Statistics that no line shows.
-    unseen = {"double_rises", "tried"}
+    unseen = {"tried"}
 
     def __init__(self, ts):
         self.ts, self.found = ts, []

@@ -8,7 +8,7 @@ FLOAT = re.compile(r"^\d[\d_]*\.\d[\d_]*(f32)?$")
 WHOLE = re.compile(r"^\d[\d_]*$")
 NUMBER_OR_NAME = re.compile(r"^[\w.]*\w$")
 EQUALITY = {"<": "<=", "<=": "<", ">": ">=", ">=": ">", "==": "!=", "!=": "=="}
-COUNTS = ["cycles", "rises", "falls", "cuts"]
+COUNTS = ["cycles", "rises", "falls", "cuts", "late_rises", "late_falls"]
 FIELDS = ["FREQUENCY_AT", "MASTER_OR_GAIN_AT", "WIDTH_OR_SHAPE_AT", "WAVESHAPE_AT", "PHASE_MODULATION_AT"]
 FLOAT_CONSTANTS = {"NOTCH_DEPTH", "HIGHEST", "MAX_FREQUENCY", "WHOLE_PART_END", "RENDERERS_RATE", "REF_SAMPLE_RATE", "LOWEST_RATE", "HIGHEST_RATE"}
 WHOLE_CONSTANTS = {"MOST_BITS", "STEPS", "LONGEST_BLOCK", "MOST_BYTES", "JOB_BYTES", "MOST_STEPS", "MOST_FLAGS", "MOST_SHAPE"}

@@ -46,12 +46,13 @@ impl Counts {
     pub fn of(crossings: &[Crossing]) -> Self {
         let mut counts = Counts::default();
         for crossing in crossings {
-            *match (crossing.edge, crossing.is_late()) {
+            let count = match (crossing.edge, crossing.is_late()) {
                 (Edge::Rise, false) => &mut counts.rises,
                 (Edge::Fall, false) => &mut counts.falls,
                 (Edge::Rise, true) => &mut counts.late_rises,
                 (Edge::Fall, true) => &mut counts.late_falls,
-            } += 1;
+            };
+            *count += 1;
         }
         counts
     }
