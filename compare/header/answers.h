@@ -23,7 +23,7 @@ struct control {
 #define START_BYTES 44
 #define WAVE_BYTES 64
 #define OSCILLATORS 6
-#define LINE_ROOM 256 /* the longest line has 175 bytes */
+#define LINE_ROOM 256 /* the longest line has 176 bytes */
 
 /* The line of a call record, as crates/calls prints it. */
 const char *answer_call(const struct control *control, const unsigned char record[CALL_BYTES], char line[LINE_ROOM]);
