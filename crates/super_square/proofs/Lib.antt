@@ -1,5 +1,6 @@
 -- The laws of the super square.
 pub mod Edges
+pub mod Samples
 pub mod Keeping
 pub mod Calls
 pub mod Courses

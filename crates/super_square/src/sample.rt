@@ -2,8 +2,8 @@
 ghost use mathlib.Core.Path.{_≡_};
 ghost use Rattle.floats.specs.F32.{half32};
 ghost use Rattle.edges.specs.Private.{Crossable};
-ghost use Rattle.super_square.specs.Sample.{level as levelOf, riseOf, fallOf, crossed, edgeOf, resetEdge, after as stateAfter, finish as finished, resetSample, plainSample, sampleOf};
-ghost use Rattle.super_square.specs.Private.{Ready};
+ghost use Rattle.super_square.specs.Sample.{level as levelOf, riseOf, fallOf, crossed, edgeOf, after as stateAfter, finish as finished, sampleOf};
+ghost use Rattle.super_square.specs.Private.{Ready, resetStart, plainStart, begun, crossedIf, endOf};
 use crate::State;
 use block::Counts;
 use edges::Edge;
@@ -12,6 +12,24 @@ pub struct Sampled {
     pub sample: f32,
     pub state: State,
     pub counts: Counts,
+}
+
+// A sample before its crossings: the master's phase and the slave's edge after their steps, and whether the crossing loop runs. After a reset the
+// slave starts anew at `restart`.
+pub struct Start {
+    pub master_phase: f32,
+    pub reset: bool,
+    pub restart: f32,
+    pub edge: Edge,
+    pub crosses: bool,
+}
+
+// How the crossings leave the slave, and what is counted beside them.
+pub struct End {
+    pub slave_phase: f32,
+    pub high: bool,
+    pub cycles: u32,
+    pub cuts: u32,
 }
 
 // The square without its smoothing, lines 90 and 127. The source has no function for it, and writes it twice.
@@ -71,18 +89,73 @@ fn edge(s: State, slave_frequency: f32) -> Edge
     edges::start(s.slave_phase + slave_frequency, s.high, s.next_sample)
 }
 
-// The edge of a sample whose master wrapped `time` samples ago, lines 77 to 120. Where no transition falls before the reset, the slave's step crosses
-// nothing: the reset puts its phase back.
-fn reset_edge(s: State, slave_frequency: f32, time: f32) -> Edge
-    requires { ⌜ Crossable half32 (edgeOf s «slave_frequency») ⌝ }
-    ensures { λ r. ⌜ r ≡ resetEdge s «slave_frequency» time ⌝ }
+// The start of a sample whose master wrapped, to `master_phase`, lines 74 to 92 and 123. Where no transition falls before the reset, the slave's step
+// crosses nothing: the reset puts its phase back.
+fn reset_start(s: State, master_frequency: f32, slave_frequency: f32, master_phase: f32) -> Start
+    ensures { λ r. ⌜ r ≡ resetStart s «master_frequency» «slave_frequency» «master_phase» ⌝ }
 {
+    let time = master_phase / master_frequency;
     let found = edges::at_reset(s.slave_phase, s.high, slave_frequency, 0.5, time);
-    let e = edges::cut(edge(s, slave_frequency), level(found.slave_phase), time);
-    if found.transition {
-        cross(e, slave_frequency)
+    Start {
+        master_phase,
+        reset: true,
+        restart: time * slave_frequency,
+        edge: edges::cut(edge(s, slave_frequency), level(found.slave_phase), time),
+        crosses: found.transition,
+    }
+}
+
+// Of one whose master did not, line 95. The slave goes on from where its crossings leave it: `restart` is not read.
+fn plain_start(s: State, slave_frequency: f32, master_phase: f32) -> Start
+    ensures { λ r. ⌜ r ≡ plainStart s «slave_frequency» «master_phase» ⌝ }
+{
+    Start {
+        master_phase,
+        reset: false,
+        restart: 0.0,
+        edge: edge(s, slave_frequency),
+        crosses: true,
+    }
+}
+
+// The master's step, lines 71 to 74: a phase of exactly 1 wraps, and so resets.
+fn begin(s: State, master_frequency: f32, slave_frequency: f32) -> Start
+    ensures { λ r. ⌜ r ≡ begun s «master_frequency» «slave_frequency» ⌝ }
+{
+    let master_phase = s.master_phase + master_frequency;
+    if master_phase >= 1.0 {
+        reset_start(s, master_frequency, slave_frequency, master_phase - 1.0)
     } else {
-        e
+        plain_start(s, slave_frequency, master_phase)
+    }
+}
+
+// Line 97. With a reset or without, the loop is called here alone, so that it is compiled in its place.
+fn cross_if(crosses: bool, e: Edge, slave_frequency: f32) -> Edge
+    requires { ⌜ Crossable half32 e ⌝ }
+    ensures { λ r. ⌜ r ≡ crossedIf crosses «slave_frequency» e ⌝ }
+{
+    if crosses { cross(e, slave_frequency) } else { e }
+}
+
+// Lines 122 to 125: after a reset the slave is low and starts anew, and a high one is cut.
+fn leave(reset: bool, restart: f32, e: Edge) -> End
+    ensures { λ r. ⌜ r ≡ endOf reset restart e ⌝ }
+{
+    if reset {
+        End {
+            slave_phase: restart,
+            high: false,
+            cycles: 1,
+            cuts: block::one_if(e.high),
+        }
+    } else {
+        End {
+            slave_phase: e.phase,
+            high: e.high,
+            cycles: 0,
+            cuts: 0,
+        }
     }
 }
 
@@ -118,51 +191,22 @@ fn finish(e: Edge, s: State, cycles: u32, cuts: u32) -> Sampled
     }
 }
 
-// With a reset, lines 73 to 93 and 122 to 125: the slave starts anew, low, from where it is `time` after the reset. A high one is cut.
-fn reset_sample(s: State, master_frequency: f32, slave_frequency: f32, master_phase: f32) -> Sampled
-    requires { ⌜ Crossable half32 (edgeOf s «slave_frequency») ⌝ }
-    ensures { λ r. ⌜ r ≡ resetSample s «master_frequency» «slave_frequency» «master_phase» ⌝ }
-{
-    let time = master_phase / master_frequency;
-    let e = reset_edge(s, slave_frequency, time);
-    let slave_phase = time * slave_frequency;
-    let t = after(
-        e,
-        master_phase,
-        slave_phase,
-        false,
-        master_frequency,
-        slave_frequency,
-    );
-    finish(e, t, 1, block::one_if(e.high))
-}
-
-// Without one, lines 95 to 120.
-fn plain_sample(s: State, master_frequency: f32, slave_frequency: f32, master_phase: f32) -> Sampled
-    requires { ⌜ Crossable half32 (edgeOf s «slave_frequency») ⌝ }
-    ensures { λ r. ⌜ r ≡ plainSample s «master_frequency» «slave_frequency» «master_phase» ⌝ }
-{
-    let e = cross(edge(s, slave_frequency), slave_frequency);
-    let t = after(
-        e,
-        master_phase,
-        e.phase,
-        e.high,
-        master_frequency,
-        slave_frequency,
-    );
-    finish(e, t, 0, 0)
-}
-
-// The master's step, lines 71 to 74: a phase of exactly 1 wraps, and so resets.
+// With a reset or without, in the source's order. The crossing loop, the state and what is put out stand here once for both.
 pub(crate) fn sample(s: State, master_frequency: f32, slave_frequency: f32) -> Sampled
     requires { ⌜ Ready s «master_frequency» «slave_frequency» ⌝ }
     ensures { λ r. ⌜ r ≡ sampleOf s «master_frequency» «slave_frequency» ⌝ }
 {
-    let master_phase = s.master_phase + master_frequency;
-    if master_phase >= 1.0 {
-        reset_sample(s, master_frequency, slave_frequency, master_phase - 1.0)
-    } else {
-        plain_sample(s, master_frequency, slave_frequency, master_phase)
-    }
+    let start = begin(s, master_frequency, slave_frequency);
+    let uncrossed = start.edge;
+    let e = cross_if(start.crosses, uncrossed, slave_frequency);
+    let end = leave(start.reset, start.restart, e);
+    let t = after(
+        e,
+        start.master_phase,
+        end.slave_phase,
+        end.high,
+        master_frequency,
+        slave_frequency,
+    );
+    finish(e, t, end.cycles, end.cuts)
 }
