@@ -258,3 +258,8 @@ two-turns x e s k =
 
 pub crossed-of : (x : Crosses) {e : Edge} → Crossable (x .width) e → Crossed (e .high) (looped x e)
 crossed-of x {e} h = let l = loop-ends {x = x} h in subst (Crossed (e .high)) (sym (l .same 0)) (l .crossed)
+
+-- the loop leaves at once where a high slave has not come to 1, and a low one not to its width
+pub uncrossed : (x : Crosses) (e : Edge) (high : Bool) → e .high ≡ high → cond high (lt (e .phase) one32) (lt (e .phase) (x .width)) ≡ true → looped x e ≡ e
+uncrossed x e true h l = stop-high {x = x} (stays-high (rw h) refl) 1 l
+uncrossed x e false h l = stop-low x e 1 (rw h) l

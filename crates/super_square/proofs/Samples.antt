@@ -1,20 +1,25 @@
--- A sample of the super square, from its parts: what comes before the crossings, the crossings, and what comes after them. Assumes nothing.
+-- A sample of the super square, from its parts: what comes before the crossings, the crossings, and what comes after them; and what is left of it where
+-- there is neither a reset nor a crossing, which counts nothing. Assumes nothing.
 use mathlib.Core.Path.{_≡_, refl}
-use mathlib.Core.Bool.{Bool, true, false, cond}
-use lib.Ieee.{Float, le}
+use mathlib.Core.Bool.{Bool, true, false, not, _&&_, cond}
+use borrow.Author.Tests.{not-true}
+use lib.Ieee.{Float, lt, le}
 use Rattle.floats.specs.F32.{_⊕_, _⊖_, half32, one32}
-use Rattle.floats.proofs.Bools.{cond-both}
+use Rattle.floats.proofs.Bools.{and-both, cond-both}
+use Rattle.block.specs.Counting.{noCounts}
+use Rattle.block.specs.Play.{Sample}
 use Rattle.edges.specs.declared.Edge.{Edge}
 use Rattle.edges.specs.Sync.{resetOf}
 use Rattle.edges.specs.Private.{Crossable}
+use Rattle.edges.proofs.CrossingLoop.{uncrossed}
 use Rattle.edges.proofs.CrossingsReset.{cut-crossable}
 use Rattle.super_square.specs.declared.State.{State}
 use Rattle.super_square.specs.declared.sample.Start.{Start}
 use Rattle.super_square.specs.declared.sample.End.{End}
 use Rattle.super_square.specs.declared.sample.Sampled.{Sampled}
-use Rattle.super_square.specs.Sample.{after, finish, resetSample, plainSample, sampleOf}
+use Rattle.super_square.specs.Sample.{edgeOf, after, finish, resetSample, plainSample, sampleOf}
 use Rattle.super_square.specs.Private.{Ready, resetStart, plainStart, begun, crossedIf, endOf}
-use Rattle.super_square.proofs.Edges.{edge-crossable}
+use Rattle.super_square.proofs.Edges.{crosses, edge-crossable}
 
 module _ (s : State) (masterFrequency slaveFrequency : Float) where
   -- what follows the start of a sample
@@ -46,3 +51,19 @@ module _ (s : State) (masterFrequency slaveFrequency : Float) where
       rw at-b
       (cond-both (λ (b : Start). Crossable half32 (b .edge)) (le one32 (s .«master_phase» ⊕ masterFrequency)) _ _
       (cut-crossable _ _ (edge-crossable h) refl refl) (edge-crossable h))
+
+-- a sample with no reset and no crossing, from the tests as one
+module _ (s : State) (masterFrequency slaveFrequency : Float)
+    (q : (not (le one32 (s .«master_phase» ⊕ masterFrequency)) && cond (s .high) (lt (s .«slave_phase» ⊕ slaveFrequency) one32) (lt (s .«slave_phase» ⊕ slaveFrequency) half32)) ≡ true) where
+  pub sample-quiet : sampleOf s masterFrequency slaveFrequency
+      ≡ (let e = edgeOf s slaveFrequency in finish e (after e (s .«master_phase» ⊕ masterFrequency) (e .phase) (e .high) masterFrequency slaveFrequency) 0 0)
+  unfolding sampleOf plainSample
+  sample-quiet =
+      let n = and-both _ _ q in
+      rw (not-true (le one32 (s .«master_phase» ⊕ masterFrequency)) (n .0), uncrossed (crosses slaveFrequency) (edgeOf s slaveFrequency) (s .high) refl (n .1))
+
+  -- nothing is counted
+  pub quiet-made : {t : Sampled} → t ≡ sampleOf s masterFrequency slaveFrequency
+      → _≡_ {A = Sample State} (record { state = t .state; sample = t .sample; counts = noCounts }) (record { state = t .state; sample = t .sample; counts = t .counts })
+  unfolding finish
+  quiet-made e = rw (e, sample-quiet)

@@ -17,6 +17,7 @@ use rooms::Found;
 use rooms::Glides;
 use rooms::Room;
 
+mod quiet;
 mod sample;
 
 // The source's fields, in its order.
@@ -159,7 +160,7 @@ fn drift_or_play(state: State, glides: Glides, out: &mut [f32]) -> Rendered
     }
 }
 
-// Every sample of the buffer.
+// Every sample of the buffer. In most of them nothing happens, and nothing is counted: they go the short way.
 fn play(state: State, p: [ParameterInterpolator; 5], out: &mut [f32]) -> Rendered
     requires { ⌜ Playable Valid rooms state (used rooms p) (now out) ⌝ }
     ensures { λ r. ⌜ asCall r (now (out .exit)) ≡ playedOf sampleAt state (used rooms p) (now (out .entry)) ⌝ }
@@ -170,11 +171,18 @@ fn play(state: State, p: [ParameterInterpolator; 5], out: &mut [f32]) -> Rendere
     let mut i = 0;
     while i < out.len() {
         moving = rooms::advance(moving);
-        let t = sample::sample(s, moving[0].value, moving[1].value);
-        out[i] = t.sample;
-        s = t.state;
-        counts = block::sum(counts, t.counts);
-        i += 1;
+        if quiet::is_quiet(s, moving[0].value, moving[1].value) {
+            let q = quiet::sample(s, moving[0].value, moving[1].value);
+            out[i] = q.sample;
+            s = q.state;
+            i += 1;
+        } else {
+            let t = sample::sample(s, moving[0].value, moving[1].value);
+            out[i] = t.sample;
+            s = t.state;
+            counts = block::sum(counts, t.counts);
+            i += 1;
+        }
     }
     Rendered {
         answer: Answer::Done,

@@ -33,7 +33,7 @@ pub struct End {
 }
 
 // The square without its smoothing, lines 90 and 127. The source has no function for it, and writes it twice.
-fn level(phase: f32) -> f32
+pub(crate) fn level(phase: f32) -> f32
     ensures { λ r. ⌜ r ≡ levelOf phase ⌝ }
 {
     if phase < 0.5 { 0.0 } else { 1.0 }
@@ -135,7 +135,11 @@ fn cross_if(crosses: bool, e: Edge, slave_frequency: f32) -> Edge
     requires { ⌜ Crossable half32 e ⌝ }
     ensures { λ r. ⌜ r ≡ crossedIf crosses «slave_frequency» e ⌝ }
 {
-    if crosses { cross(e, slave_frequency) } else { e }
+    if crosses {
+        cross(e, slave_frequency)
+    } else {
+        e
+    }
 }
 
 // Lines 122 to 125: after a reset the slave is low and starts anew, and a high one is cut.

@@ -12,7 +12,7 @@ use Rattle.block.specs.Play.{Sample}
 use Rattle.edges.specs.declared.Edge.{Edge}
 use Rattle.edges.specs.Sync.{resetOf}
 use Rattle.edges.specs.Private.{Crossable}
-use Rattle.edges.proofs.CrossingLoop.{stays-high, stop-low, stop-high}
+use Rattle.edges.proofs.CrossingLoop.{uncrossed}
 use Rattle.edges.proofs.CrossingsReset.{cut-crossable}
 use Rattle.variable_shape.specs.declared.State.{State}
 use Rattle.variable_shape.specs.declared.steps.Steps.{Steps}
@@ -59,11 +59,6 @@ start-crossable sync s steps previousPw w b at-w at-b h =
     (cond-both (λ (b : Start). Crossable (steps .pw) (b .edge)) (sync && le one32 (masterStep sync (s .«master_phase») (steps .«master_frequency»))) _ _
     (cut-crossable _ _ (edge-crossable h) refl refl) (edge-crossable h))
 
--- the crossing loop leaves at once where a high slave has not come to 1, and a low one not to its width
-uncrossed : (w : Waveform) (e : Edge) (high : Bool) → e .high ≡ high → cond high (lt (e .phase) one32) (lt (e .phase) (w .pw)) ≡ true → crossed w e ≡ e
-uncrossed w e true h l = stop-high {x = crosses w} (stays-high (rw h) refl) 1 l
-uncrossed w e false h l = stop-low (crosses w) e 1 (rw h) l
-
 -- a sample with no reset and no crossing, from the tests as one
 module _ (sync phaseOutput : Bool) (s : State) (steps : Steps)
     (q : (not (sync && le one32 (masterStep sync (s .«master_phase») (steps .«master_frequency»))) && cond (s .high) (lt (s .«slave_phase» ⊕ steps .«slave_frequency») one32) (lt (s .«slave_phase» ⊕ steps .«slave_frequency») (steps .pw))) ≡ true) where
@@ -74,7 +69,7 @@ module _ (sync phaseOutput : Bool) (s : State) (steps : Steps)
   unfolding sampleOf plainSample waveformOf
   sample-quiet =
       let n = and-both _ _ q in
-      rw (not-true (sync && le one32 (masterStep sync (s .«master_phase») (steps .«master_frequency»))) (n .0), uncrossed (waveformOf steps (s .«previous_pw»)) (edgeOf s (steps .«slave_frequency»)) (s .high) refl (n .1), cond-both (λ (k : ℕ). k ≡ 0) sync 0 0 refl refl)
+      rw (not-true (sync && le one32 (masterStep sync (s .«master_phase») (steps .«master_frequency»))) (n .0), uncrossed (crosses (waveformOf steps (s .«previous_pw»))) (edgeOf s (steps .«slave_frequency»)) (s .high) refl (n .1), cond-both (λ (k : ℕ). k ≡ 0) sync 0 0 refl refl)
 
   -- nothing is counted
   pub quiet-made : {t : Sampled} → t ≡ sampleOf sync phaseOutput s steps → _≡_ {A = Sample State} (record { state = t .state; sample = t .sample; counts = noCounts }) (record { state = t .state; sample = t .sample; counts = t .counts })
