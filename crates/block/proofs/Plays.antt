@@ -41,7 +41,7 @@ pub few-most : {m n : ℕ} {c : Counts} → m ≤ n → Few m c → Few n c
 few-most h f = record { cycles = omega (arith, f .cycles); rises = omega (arith, f .rises); falls = omega (arith, f .falls); cuts = omega (arith, f .cuts) }
 
 -- so few that 32 bits hold them
-in-32 : (n : ℕ) → n ≤ 12291 → n % 2 ^ 32 ≡ n
+pub in-32 : (n : ℕ) → n ≤ 12291 → n % 2 ^ 32 ≡ n
 in-32 n h = mod-eq-of-lt {n = n} {m = 2 ^ 32} (omega arith)
 
 pub few-fit : {i : ℕ} {c : Counts} → i ≤ 4097 → Few i c → modulo32 c ≡ c

@@ -1,11 +1,11 @@
 -- Today's crossings with the late ones added back are those that 01 counted: of one, of the loop around them, and of a sample with a reset. Assumes nothing.
 use mathlib.Core.Path.{_≡_, refl, sym, _∙_, ap}
 use mathlib.Core.Bool.{Bool, true, false, not, _&&_, cond}
-use Prim.Native.Nat.{ℕ, zero, suc, _+_, _%_, _^_, _≤_}
-use native.Mathlib.Nat.{mod-eq-of-lt}
+use Prim.Native.Nat.{ℕ, zero, suc, _+_, _≤_}
 use native.Mathlib.Omega.{arith}
 use lib.Ieee.{Float, lt}
 use Rattle.floats.specs.F32.{zero32, one32}
+use Rattle.block.proofs.Plays.{in-32}
 use Rattle.edges.specs.declared.AtReset.{AtReset}
 use Rattle.edges.specs.declared.Crossings.{Crossings}
 use Rattle.edges.specs.declared.Edge.{Edge}
@@ -31,15 +31,11 @@ edgeAsHeard e = record {
   crossings = crossingsAsHeard (e .crossings);
 }
 
--- a count so small does not start again at 0
-one-more : (n : ℕ) → n ≤ 1 → (n + 1) % 2 ^ 32 ≡ n + 1
-one-more n h = mod-eq-of-lt {n = n + 1} {m = 2 ^ 32} (omega arith)
-
 pub rose-as-heard : (late : Bool) (c : Crossings) → everyRise c ≤ 1 → rose01 (crossingsAsHeard c) ≡ crossingsAsHeard (rose late c)
-rose-as-heard late c h = ap (λ (n : ℕ). record { rises = n; falls = everyFall c; «late_rises» = 0; «late_falls» = 0 }) (one-more (everyRise c) h ∙ sym (rose-more late c h))
+rose-as-heard late c h = ap (λ (n : ℕ). record { rises = n; falls = everyFall c; «late_rises» = 0; «late_falls» = 0 }) (in-32 (everyRise c + 1) (omega (arith, h)) ∙ sym (rose-more late c h))
 
 pub fell-as-heard : (late : Bool) (c : Crossings) → everyFall c ≤ 1 → fellIf01 true (crossingsAsHeard c) ≡ crossingsAsHeard (fell late c)
-fell-as-heard late c h = ap (λ (n : ℕ). record { rises = everyRise c; falls = n; «late_rises» = 0; «late_falls» = 0 }) (one-more (everyFall c) h ∙ sym (fell-more late c h))
+fell-as-heard late c h = ap (λ (n : ℕ). record { rises = everyRise c; falls = n; «late_rises» = 0; «late_falls» = 0 }) (in-32 (everyFall c + 1) (omega (arith, h)) ∙ sym (fell-more late c h))
 
 -- a rise and a fall as 01 had them, of the oscillator that crosses by x
 pub record In01 (x : Crosses) : Type 0 where

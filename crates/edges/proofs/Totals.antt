@@ -1,11 +1,11 @@
 -- Crossings, late and not late together: a rise adds one to the rises, a fall one to the falls, and where no reset is nothing is late. Assumes nothing.
 use mathlib.Core.Path.{_≡_}
 use mathlib.Core.Bool.{Bool, true, false, cond, not, _&&_}
-use Prim.Native.Nat.{ℕ, zero, suc, _+_, _%_, _^_, _≤_}
-use native.Mathlib.Nat.{mod-eq-of-lt}
+use Prim.Native.Nat.{ℕ, zero, suc, _+_, _≤_}
 use native.Mathlib.Omega.{arith}
 use lib.Ieee.{Float, lt}
 use Rattle.floats.specs.F32.{one32}
+use Rattle.block.proofs.Plays.{in-32}
 use Rattle.edges.specs.declared.Crossings.{Crossings}
 use Rattle.edges.specs.declared.Edge.{Edge}
 use Rattle.edges.specs.Counted.{rose, fell}
@@ -17,17 +17,13 @@ everyRise c = c .rises + c .«late_rises»
 abbrev pub everyFall : Crossings → ℕ
 everyFall c = c .falls + c .«late_falls»
 
--- a count so small does not start again at 0
-small : (n : ℕ) → n ≤ 2 → n % 2 ^ 32 ≡ n
-small n h = mod-eq-of-lt {n = n} {m = 2 ^ 32} (omega arith)
-
 pub rose-more : (late : Bool) (c : Crossings) → everyRise c ≤ 1 → everyRise (rose late c) ≡ everyRise c + 1
-rose-more true c h = rw (small (c .rises + 0) (omega (arith, h)), small (c .«late_rises» + 1) (omega (arith, h))) (omega arith)
-rose-more false c h = rw (small (c .rises + 1) (omega (arith, h)), small (c .«late_rises» + 0) (omega (arith, h))) (omega arith)
+rose-more true c h = rw (in-32 (c .rises + 0) (omega (arith, h)), in-32 (c .«late_rises» + 1) (omega (arith, h))) (omega arith)
+rose-more false c h = rw (in-32 (c .rises + 1) (omega (arith, h)), in-32 (c .«late_rises» + 0) (omega (arith, h))) (omega arith)
 
 pub fell-more : (late : Bool) (c : Crossings) → everyFall c ≤ 1 → everyFall (fell late c) ≡ everyFall c + 1
-fell-more true c h = rw (small (c .falls + 0) (omega (arith, h)), small (c .«late_falls» + 1) (omega (arith, h))) (omega arith)
-fell-more false c h = rw (small (c .falls + 1) (omega (arith, h)), small (c .«late_falls» + 0) (omega (arith, h))) (omega arith)
+fell-more true c h = rw (in-32 (c .falls + 0) (omega (arith, h)), in-32 (c .«late_falls» + 1) (omega (arith, h))) (omega arith)
+fell-more false c h = rw (in-32 (c .falls + 1) (omega (arith, h)), in-32 (c .«late_falls» + 0) (omega (arith, h))) (omega arith)
 
 -- what a rise and a fall keep, the loop keeps, however many turns it makes
 pub turns-keep : (P : Edge → Type 0) (width : Float) (rise fall : Edge → Edge) → ((e : Edge) → P e → P (rise e)) → ((e : Edge) → P e → P (fall e))

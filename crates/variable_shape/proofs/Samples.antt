@@ -21,7 +21,7 @@ use Rattle.variable_shape.specs.declared.sample.Start.{Start}
 use Rattle.variable_shape.specs.declared.sample.End.{End}
 use Rattle.variable_shape.specs.declared.sample.Sampled.{Sampled}
 use Rattle.variable_shape.specs.Waveform.{waveformOf}
-use Rattle.variable_shape.specs.Sample.{crossed, edgeOf, masterStep, after, finish, resetSample, plainSample, sampleOf}
+use Rattle.variable_shape.specs.Sample.{edgeOf, masterStep, after, finish, resetSample, plainSample, sampleOf}
 use Rattle.variable_shape.specs.Private.{Ready, resetStart, plainStart, begun, crossedIf, endOf}
 use Rattle.variable_shape.proofs.Edges.{crosses, edge-crossable}
 
