@@ -71,10 +71,10 @@ top-at : At (f32 0x4800_0000) (2 ^ 166)
 unfolding fits ofBits
 top-at = record { fit = tt; reads = refl }
 
-pub between : (x : Float) → T (fits binary32 x) → (le one32 x ≡ true) × (lt x (f32 0x4800_0000) ≡ true) → Between x
+pub between : (x : Float) → fits binary32 x ≡ true → (le one32 x ≡ true) × (lt x (f32 0x4800_0000) ≡ true) → Between x
 unfolding tick
 between x t h =
-    let u = under-of t (le-trans zero32 one32 x (at-least-0 one-at) (h .0)) (h .1) top-at in
+    let u = under-of (subst T (sym t) tt) (le-trans zero32 one32 x (at-least-0 one-at) (h .0)) (h .1) top-at in
     let small : u .n / 2 ^ 149 < 131072 = div-lt-iff-lt-mul (pow-pos 149) .1 (u .under) in
     record {
       n = u .n;
@@ -82,30 +82,29 @@ between x t h =
       whole = whole-part-at (u .at) small;
     }
 
--- the exponent is what the bits' field says, and of the 24 digits as many stand before the point
+-- the field is the exponent and 127, and of the 24 digits one more than the exponent stands before the point
 module _ {x : Float} (b : Between x) where
-  pub bits-range : (1065353216 ≤ toBits binary32 x) × (toBits binary32 x < 1207959552)
-  bits-range = (omega arith, omega arith)
+  abbrev exponent : ℕ
+  exponent = toBits binary32 x / 8388608 - 127
 
-  module _ (before : ℕ) (field : (1065353216 + before * 8388608 ≤ toBits binary32 x) × (toBits binary32 x < 1065353216 + (before + 1) * 8388608)) where
-    exponent-is : before + 126 ≡ b .digits .k
-    exponent-is = omega arith
+  pub field-range : (127 ≤ toBits binary32 x / 8388608) × (toBits binary32 x / 8388608 ≤ 143)
+  field-range = (omega arith, omega arith)
 
-    pub few-before : before ≤ 23
-    few-before = omega (arith, exponent-is)
+  exponent-is : exponent + 126 ≡ b .digits .k
+  exponent-is = omega arith
 
-    digits-is : toBits binary32 x % 8388608 + 8388608 ≡ b .digits .r
-    digits-is = omega arith
+  digits-is : toBits binary32 x % 8388608 + 8388608 ≡ b .digits .r
+  digits-is = omega arith
 
-    shift-is : 2 ^ 149 ≡ 2 ^ (23 - before) * 2 ^ b .digits .k
-    shift-is =
-        let e : 149 ≡ 23 - before + b .digits .k = omega (arith, exponent-is) in
-        ap (λ (i : ℕ). 2 ^ i) e ∙ pow-add 2 (23 - before) (b .digits .k)
+  shift-is : 2 ^ 149 ≡ 2 ^ (23 - exponent) * 2 ^ b .digits .k
+  shift-is =
+      let e : 149 ≡ 23 - exponent + b .digits .k = omega (arith, exponent-is) in
+      ap (λ (i : ℕ). 2 ^ i) e ∙ pow-add 2 (23 - exponent) (b .digits .k)
 
-    pub whole-is : (toBits binary32 x % 8388608 + 8388608) / 2 ^ (23 - before) ≡ wholePart x
-    whole-is =
-        ap (λ (i : ℕ). i / 2 ^ (23 - before)) digits-is
-        ∙ sym (mul-div-mul-right (b .digits .r) (2 ^ (23 - before)) (pow-pos (b .digits .k)))
-        ∙ ap (λ (i : ℕ). b .digits .r * 2 ^ b .digits .k / i) (sym shift-is)
-        ∙ ap (λ (i : ℕ). i / 2 ^ 149) (sym (b .digits .is))
-        ∙ sym (b .whole)
+  pub whole-is : (toBits binary32 x % 8388608 + 8388608) / 2 ^ (23 - exponent) ≡ wholePart x
+  whole-is =
+      ap (λ (i : ℕ). i / 2 ^ (23 - exponent)) digits-is
+      ∙ sym (mul-div-mul-right (b .digits .r) (2 ^ (23 - exponent)) (pow-pos (b .digits .k)))
+      ∙ ap (λ (i : ℕ). b .digits .r * 2 ^ b .digits .k / i) (sym shift-is)
+      ∙ ap (λ (i : ℕ). i / 2 ^ 149) (sym (b .digits .is))
+      ∙ sym (b .whole)

@@ -1,7 +1,6 @@
 // The whole part of a float, worked out from its bits: the source's `as i32`, for numbers from 0 up to 131,072.
 ghost use mathlib.Core.Path.{_≡_};
 ghost use mathlib.Core.Bool.{true};
-ghost use Prim.Native.Nat.{_≤_, _<_, _+_, _*_};
 ghost use lib.Ieee.{le, lt};
 ghost use Rattle.floats.specs.F32.{f32, one32};
 ghost use Rattle.whole_part.specs.WholePart.{wholePart};
@@ -17,26 +16,13 @@ pub fn whole_part(x: f32) -> u32
     if x >= 1.0 { digits_before_point(x) } else { 0 }
 }
 
-// The leading one, which the bits leave out, and of the 23 digits behind it those before the point.
+// Of the leading one, which the bits leave out, and the 23 digits behind it those before the point, which are one more than the exponent. The bits hold
+// the exponent with 127 added.
 fn digits_before_point(x: f32) -> u32
     requires { ⌜ (le one32 x ≡ true) × (lt x (f32 0x4800_0000) ≡ true) ⌝ }
     ensures { λ r. ⌜ r ≡ wholePart x ⌝ }
 {
     let bits = f32::to_bits(x);
-    let before = exponent(bits);
-    (bits % 0x80_0000 + 0x80_0000) >> (23 - before)
-}
-
-// The exponent of a number from 1 up: the field's values from 127 on are tried one by one, 17 at most, which the proof follows without a shift.
-fn exponent(bits: u32) -> u32
-    requires { ⌜ (1065353216 ≤ bits) × (bits < 1207959552) ⌝ }
-    ensures { λ r. ⌜ (1065353216 + r * 8388608 ≤ bits) × (bits < 1065353216 + (r + 1) * 8388608) ⌝ }
-{
-    let mut exponent = 0;
-    let mut next = 0x4000_0000;
-    while bits >= next {
-        exponent += 1;
-        next += 0x80_0000;
-    }
-    exponent
+    let exponent = bits / 0x80_0000 - 127;
+    (bits % 0x80_0000 + 0x80_0000) >> (23 - exponent)
 }
