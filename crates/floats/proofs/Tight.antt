@@ -1,5 +1,6 @@
 -- Every public function's contract, as the kit reads it, determines its outcome. Assumes nothing.
 use mathlib.Core.Path.{refl}
+use borrow.Fn.Kinds.{ended_of}
 use Rattle.floats.specs.Tightness.{Determines}
 use Rattle.floats.proofs.Tightness.{coincide}
 use Rattle.floats.proofs.min
@@ -9,20 +10,20 @@ use Rattle.floats.proofs.abs
 use Rattle.floats.proofs.from_bits
 use Rattle.floats.proofs.to_bits
 
-pub min_tight : Determines min.ended min.Reads.Learnt
+pub min_tight : Determines (ended_of _ min.Kinds.ps min.Kinds.r) min.Reads.Learnt
 min_tight κs a r q v w h k = (coincide h k, refl)
 
-pub max_tight : Determines max.ended max.Reads.Learnt
+pub max_tight : Determines (ended_of _ max.Kinds.ps max.Kinds.r) max.Reads.Learnt
 max_tight κs a r q v w h k = (coincide h k, refl)
 
-pub clamp_tight : Determines clamp.ended clamp.Reads.Learnt
+pub clamp_tight : Determines (ended_of _ clamp.Kinds.ps clamp.Kinds.r) clamp.Reads.Learnt
 clamp_tight κs a r q v w h k = (coincide h k, refl)
 
-pub abs_tight : Determines abs.ended abs.Reads.Learnt
+pub abs_tight : Determines (ended_of _ abs.Kinds.ps abs.Kinds.r) abs.Reads.Learnt
 abs_tight κs a r q v w h k = (coincide h k, refl)
 
-pub from_bits_tight : Determines from_bits.ended from_bits.Reads.Learnt
+pub from_bits_tight : Determines (ended_of _ from_bits.Kinds.ps from_bits.Kinds.r) from_bits.Reads.Learnt
 from_bits_tight κs a r q v w h k = (coincide h k, refl)
 
-pub to_bits_tight : Determines to_bits.ended to_bits.Reads.Learnt
+pub to_bits_tight : Determines (ended_of _ to_bits.Kinds.ps to_bits.Kinds.r) to_bits.Reads.Learnt
 to_bits_tight κs a r q v w h k = (coincide h k, refl)

@@ -1,4 +1,6 @@
 // Rust's f32::min, max, clamp and abs, worked out with comparisons, and floats from and to bit patterns.
+#![tactic(auto)]
+
 ghost use Rattle.std.specs.Prelude.{◌≡◌};
 ghost use Rattle.std.specs.Float.{binary32};
 ghost use Rattle.std.specs.Float.Ieee.{to_bits};

@@ -12,8 +12,7 @@ use lib.Ieee.{Float, nan, inf, fin, binary32, up, down, of_bits, lt, eq, neg, fi
 use lib.Ieee.Fits.{and_i, and_l, eq→eqb, up_pos}
 use Rattle.floats.specs.F32.{zero32}
 use Rattle.floats.specs.Helpers.{abs_of}
-use Rattle.floats.proofs.abs.Statement.{statement}
-use Rattle.floats.proofs.abs.Tie as tie
+use Rattle.floats.proofs.abs.Goals as goal
 
 below : (x : Float) → lt x zero32 ≡ true → neg x ≡ abs_of x
 unfolding lt neg of_bits
@@ -51,9 +50,11 @@ above (fin true m e) h k =
     let b : m * up e * 1 ≡ 0 = omega (arith, z) in
     absurd (subst T k (and_i (eqb (m * up e * 1) (0 * 1 * down e)) (eqb (m * up e * 1) 0) (eq→eqb a) (eq→eqb b)))
 
-pub abs_spec : {M : Type 1} → statement M
-abs_spec =
-    tie.close
-    (tie.spec
-    (λ c. below _ c.if1.true) (λ c. equal _ (subst T (sym c.before.before.well-formed.0.1) tt) c.if2.true)
-    (λ c. above _ c.before.if1.false c.if2.false))
+pub returns-then-x : goal.returns-then-x
+returns-then-x c = below _ c.if-x.true
+
+pub returns-then-x-2 : goal.returns-then-x-2
+returns-then-x-2 c = equal _ (subst T (sym c.well_formed.0.1) tt) c.if-x-2.true
+
+pub returns-else-x-2 : goal.returns-else-x-2
+returns-else-x-2 c = above _ c.if-x.false c.if-x-2.false

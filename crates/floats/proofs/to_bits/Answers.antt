@@ -5,8 +5,7 @@ use lib.Dec.{T}
 use lib.Ieee.{Float, nan, inf, fin, binary32, is_nan, ne, to_bits}
 use lib.Ieee.Compare.{differs_from_itself, nan_differs}
 use borrow.Author.Rules.{rules}
-use Rattle.floats.proofs.to_bits.Statement.{statement}
-use Rattle.floats.proofs.to_bits.Tie as tie
+use Rattle.floats.proofs.to_bits.Goals as goal
 
 no_nan : (x : Float) → ne x x ≡ false → T (not (is_nan x))
 unfolding is_nan
@@ -14,12 +13,9 @@ no_nan nan h = subst T (sym nan_differs ∙ h) tt
 no_nan (inf s) h = tt
 no_nan (fin s m e) h = tt
 
-float-to-bits-result : tie.Need-float-to-bits-result
-float-to-bits-result c = no_nan _ c.if1.false
+pub float_to_bits-result : goal.float_to_bits-result
+float_to_bits-result c = no_nan _ c.if-x.false
 
-returns : tie.Need-returns
+pub returns-then-x : goal.returns-then-x
 unfolding to_bits
-returns c = sym (ap (to_bits binary32) (differs_from_itself _ (subst T (sym c.if1.true) tt)))
-
-pub to_bits_spec : {M : Type 1} → statement M
-to_bits_spec = tie.close (tie.spec float-to-bits-result returns (λ c. search rules))
+returns-then-x c = sym (ap (to_bits binary32) (differs_from_itself _ (subst T (sym c.if-x.true) tt)))

@@ -1,0 +1,8 @@
+-- `floats::min` meets its contract: each way of the test is the definition's. Assumes nothing.
+use Rattle.floats.proofs.min.Goals as goal
+
+pub returns-then-x-y : goal.returns-then-x-y
+returns-then-x-y c = rw c.if-x-y.true
+
+pub returns-else-x-y : goal.returns-else-x-y
+returns-else-x-y c = rw c.if-x-y.false
