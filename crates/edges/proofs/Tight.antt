@@ -1,4 +1,5 @@
 -- Every public function's contract, as the kit reads it, determines its outcome. Assumes nothing.
+use borrow.Fn.Kinds.{ended_of}
 use Rattle.std.proofs.Common.{refl}
 use Rattle.floats.specs.Tightness.{Determines}
 use Rattle.floats.proofs.Tightness.{coincide}
@@ -14,35 +15,35 @@ use Rattle.edges.proofs.triangle.triangle_at
 use Rattle.edges.proofs.triangle.triangle_step
 use Rattle.edges.proofs.triangle.rise_time
 
-pub start_tight : Determines start.ended start.Reads.Learnt
+pub start_tight : Determines (ended_of _ start.Kinds.ps start.Kinds.r) start.Reads.Learnt
 start_tight κs a r q v w h k = (coincide h k, refl)
 
-pub risen_tight : Determines risen.ended risen.Reads.Learnt
+pub risen_tight : Determines (ended_of _ risen.Kinds.ps risen.Kinds.r) risen.Reads.Learnt
 risen_tight κs a r q v w h k = (coincide h k, refl)
 
-pub fallen_tight : Determines fallen.ended fallen.Reads.Learnt
+pub fallen_tight : Determines (ended_of _ fallen.Kinds.ps fallen.Kinds.r) fallen.Reads.Learnt
 fallen_tight κs a r q v w h k = (coincide h k, refl)
 
-pub wrapped_tight : Determines wrapped.ended wrapped.Reads.Learnt
+pub wrapped_tight : Determines (ended_of _ wrapped.Kinds.ps wrapped.Kinds.r) wrapped.Reads.Learnt
 wrapped_tight κs a r q v w h k = (coincide h k, refl)
 
-pub counts_tight : Determines counts.ended counts.Reads.Learnt
+pub counts_tight : Determines (ended_of _ counts.Kinds.ps counts.Kinds.r) counts.Reads.Learnt
 counts_tight κs a r q v w h k = (coincide h k, refl)
 
-pub at_reset_tight : Determines at_reset.ended at_reset.Reads.Learnt
+pub at_reset_tight : Determines (ended_of _ at_reset.Kinds.ps at_reset.Kinds.r) at_reset.Reads.Learnt
 at_reset_tight κs a r q v w h k = (coincide h k, refl)
 
-pub cut_tight : Determines cut.ended cut.Reads.Learnt
+pub cut_tight : Determines (ended_of _ cut.Kinds.ps cut.Kinds.r) cut.Reads.Learnt
 cut_tight κs a r q v w h k = (coincide h k, refl)
 
-pub triangle_tight : Determines triangle.ended triangle.Reads.Learnt
+pub triangle_tight : Determines (ended_of _ triangle.Kinds.ps triangle.Kinds.r) triangle.Reads.Learnt
 triangle_tight κs a r q v w h k = (coincide h k, refl)
 
-pub triangle_at_tight : Determines triangle_at.ended triangle_at.Reads.Learnt
+pub triangle_at_tight : Determines (ended_of _ triangle_at.Kinds.ps triangle_at.Kinds.r) triangle_at.Reads.Learnt
 triangle_at_tight κs a r q v w h k = (coincide h k, refl)
 
-pub triangle_step_tight : Determines triangle_step.ended triangle_step.Reads.Learnt
+pub triangle_step_tight : Determines (ended_of _ triangle_step.Kinds.ps triangle_step.Kinds.r) triangle_step.Reads.Learnt
 triangle_step_tight κs a r q v w h k = (coincide h k, refl)
 
-pub rise_time_tight : Determines rise_time.ended rise_time.Reads.Learnt
+pub rise_time_tight : Determines (ended_of _ rise_time.Kinds.ps rise_time.Kinds.r) rise_time.Reads.Learnt
 rise_time_tight κs a r q v w h k = (coincide h k, refl)

@@ -1,4 +1,5 @@
 -- Every public function's contract, as the kit reads it, determines its outcome. Assumes nothing.
+use borrow.Fn.Kinds.{ended_of}
 use mathlib.Core.Path.{◌≡◌, refl}
 use mathlib.Core.List.{List}
 use Prim.Native.Nat.{ℕ}
@@ -13,5 +14,5 @@ use Rattle.jobs.proofs.read
 pub record_tight : (κs : Lfts 1) (list r q : Bor (List ℕ)) (k : ℕ) → part.Reads.Learnt κs (list, (k, tt)) r (list, (k, tt)) → part.Reads.Learnt κs (list, (k, tt)) q (list, (k, tt)) → r.now ≡ q.now
 record_tight κs list r q k h e = coincide h e
 
-pub read_tight : Determines read.ended read.Reads.Learnt
+pub read_tight : Determines (ended_of _ read.Kinds.ps read.Kinds.r) read.Reads.Learnt
 read_tight κs a r q v w h k = (coincide h k, refl)

@@ -1,4 +1,5 @@
 -- The contracts of `new`, `init` and `render`, as the kit reads them, determine all: the state; answer, state, counts and buffer. Assumes nothing.
+use borrow.Fn.Kinds.{ended_of}
 use Rattle.std.proofs.Common.{refl}
 use Rattle.floats.specs.Tightness.{Determines}
 use Rattle.floats.proofs.Tightness.{coincide}
@@ -7,13 +8,13 @@ use Rattle.nes_triangle.proofs.new
 use Rattle.nes_triangle.proofs.init
 use Rattle.nes_triangle.proofs.render
 
-pub new_tight : Determines new.ended new.Reads.Learnt
+pub new_tight : Determines (ended_of _ new.Kinds.ps new.Kinds.r) new.Reads.Learnt
 new_tight κs a r q v w h k = (coincide h k, refl)
 
-pub init_tight : Determines init.ended init.Reads.Learnt
+pub init_tight : Determines (ended_of _ init.Kinds.ps init.Kinds.r) init.Reads.Learnt
 init_tight κs a r q v w h k = (coincide h k, refl)
 
-pub render_tight : Determines render.ended render.Reads.Learnt
+pub render_tight : Determines (ended_of _ render.Kinds.ps render.Kinds.r) render.Reads.Learnt
 render_tight κs a r q v w h k =
     let o = same_outcome r.answer q.answer _ _ _ _ _ _ (coincide h k) in
     (rw (o.0, o.1, o.2), rw o.3)

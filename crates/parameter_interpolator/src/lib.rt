@@ -1,6 +1,8 @@
 // Linear interpolation of parameters in rendering loops: the source's utils/parameter_interpolator.rs. Where the source keeps
 // a reference to the parameter and writes back as the interpolator is dropped, the value goes in and comes out by value: the
 // field `value` is what the source's drop stores, and each sample's state keeps it.
+#![tactic(auto)]
+
 ghost use Rattle.std.specs.Prelude.{◌≡◌};
 ghost use Rattle.parameter_interpolator.specs.Interpolator.{new_interpolator, next_interpolator};
 

@@ -1,4 +1,6 @@
 // Polynomial approximation of band-limited step for band-limited waveform synthesis: the source's utils/polyblep.rs.
+#![tactic(auto)]
+
 ghost use Rattle.std.specs.Prelude.{◌≡◌};
 ghost use Rattle.polyblep.specs.Polyblep.{this_blep_sample, next_blep_sample, next_integrated_blep_sample, this_integrated_blep_sample};
 

@@ -1,4 +1,6 @@
 // The ranges of 01 that more than one oscillator has, for states and parameters. A NaN lies outside each, since a comparison with it is false.
+#![tactic(auto)]
+
 ghost use Rattle.std.specs.Prelude.{◌≡◌};
 ghost use Rattle.ranges.specs.Ranges.{within as between, phase_in, frequency_in, parameter_frequency_in, unit_in, waveshape_in, modulation_or_gain_in};
 

@@ -1,4 +1,5 @@
 -- Every public function's contract, as the kit reads it, determines all: of `render` number, length and text. Assumes nothing.
+use borrow.Fn.Kinds.{ended_of}
 use mathlib.Core.Path.{◌≡◌, refl, ap}
 use native.Mathlib.Omega.{arith}
 use Rattle.floats.specs.Tightness.{Determines}
@@ -22,16 +23,16 @@ same_written NoRoom (Text m) h k = absurd (omega (arith, h))
 same_written NoRoom (BadInput m) h k = absurd (omega (arith, h))
 same_written NoRoom NoRoom h k = refl
 
-pub count_tight : Determines count.ended count.Reads.Learnt
+pub count_tight : Determines (ended_of _ count.Kinds.ps count.Kinds.r) count.Reads.Learnt
 count_tight κs a r q v w h k = (coincide h k, refl)
 
-pub is_job_list_tight : Determines is_job_list.ended is_job_list.Reads.Learnt
+pub is_job_list_tight : Determines (ended_of _ is_job_list.Kinds.ps is_job_list.Kinds.r) is_job_list.Reads.Learnt
 is_job_list_tight κs a r q v w h k = (coincide h k, refl)
 
-pub looks_like_text_tight : Determines looks_like_text.ended looks_like_text.Reads.Learnt
+pub looks_like_text_tight : Determines (ended_of _ looks_like_text.Kinds.ps looks_like_text.Kinds.r) looks_like_text.Reads.Learnt
 looks_like_text_tight κs a r q v w h k = (coincide h k, refl)
 
-pub render_tight : Determines render.ended render.Reads.Learnt
+pub render_tight : Determines (ended_of _ render.Kinds.ps render.Kinds.r) render.Reads.Learnt
 render_tight κs a r q v w h k =
     let same = coincide h k in
     (same_written r q (ap (λ (x : Handed). x.number) same) (ap (λ (x : Handed). x.count) same), ap (λ (x : Handed). (tt, (x.buffer, tt))) same)

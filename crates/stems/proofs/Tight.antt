@@ -1,4 +1,5 @@
 -- Every public function's contract, as the kit reads it, determines all: of `compose` number, length and bytes. Assumes nothing.
+use borrow.Fn.Kinds.{ended_of}
 use mathlib.Core.Path.{◌≡◌, refl, sym, ap, ◌∙◌}
 use mathlib.Core.Bool.{cond}
 use Prim.Native.Nat.{ℕ}
@@ -23,13 +24,13 @@ by_number BadInput = refl
 by_number BadParam = refl
 by_number NoRoom = refl
 
-pub number_tight : Determines number.ended number.Reads.Learnt
+pub number_tight : Determines (ended_of _ number.Kinds.ps number.Kinds.r) number.Reads.Learnt
 number_tight κs a r q v w h k = (coincide h k, refl)
 
-pub count_tight : Determines count.ended count.Reads.Learnt
+pub count_tight : Determines (ended_of _ count.Kinds.ps count.Kinds.r) count.Reads.Learnt
 count_tight κs a r q v w h k = (coincide h k, refl)
 
-pub compose_tight : Determines compose.ended compose.Reads.Learnt
+pub compose_tight : Determines (ended_of _ compose.Kinds.ps compose.Kinds.r) compose.Reads.Learnt
 compose_tight κs a r q v w h k =
     let same = coincide h k in
     (sym (by_number r) ∙ ap (λ (x : Handed). answered x.number x.count) same ∙ by_number q, ap (λ (x : Handed). (tt, (x.bytes, tt))) same)

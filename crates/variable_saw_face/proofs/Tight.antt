@@ -1,4 +1,5 @@
 -- Every public function's contract, as the kit reads it, determines all: answer, words, result and samples. Assumes nothing.
+use borrow.Fn.Kinds.{ended_of}
 use mathlib.Core.Path.{refl}
 use Rattle.floats.specs.Tightness.{Determines}
 use Rattle.floats.proofs.Tightness.{coincide}
@@ -6,8 +7,8 @@ use Rattle.words.proofs.Faces.{same_face}
 use Rattle.variable_saw_face.proofs.init
 use Rattle.variable_saw_face.proofs.render
 
-pub init_tight : Determines init.ended init.Reads.Learnt
+pub init_tight : Determines (ended_of _ init.Kinds.ps init.Kinds.r) init.Reads.Learnt
 init_tight κs a r q v w h k = (refl, rw (coincide h k))
 
-pub render_tight : Determines render.ended render.Reads.Learnt
+pub render_tight : Determines (ended_of _ render.Kinds.ps render.Kinds.r) render.Reads.Learnt
 render_tight κs a r q v w h k = let o = same_face (coincide h k) in (o.0, rw (o.1, o.2, o.3))

@@ -1,4 +1,5 @@
 -- The contracts of `set_master_phase` and `set_master_phase_in`, as the kit reads them, determine all: answer and state. Assumes nothing.
+use borrow.Fn.Kinds.{ended_of}
 use mathlib.Core.Path.{◌≡◌, refl, ap}
 use base.Logic.{emp}
 use contract.Lifetimes.{Lfts}
@@ -22,7 +23,7 @@ same_set r q e =
     let state = ap (λ (c : Setting). c.state) e in
     rw (answer, state)
 
-pub set_master_phase_tight : Determines set_master_phase.ended set_master_phase.Reads.Learnt
+pub set_master_phase_tight : Determines (ended_of _ set_master_phase.Kinds.ps set_master_phase.Kinds.r) set_master_phase.Reads.Learnt
 set_master_phase_tight κs a r q v w h k = (same_set r q (coincide h k), refl)
 
 -- The kit writes no `Reads` for a function that is proved by hand: this is its `ensures`, read by the kit's own rules.

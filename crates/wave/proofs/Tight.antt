@@ -1,4 +1,5 @@
 -- Every public function's contract, as the kit reads it, determines its outcome. Assumes nothing.
+use borrow.Fn.Kinds.{ended_of}
 use mathlib.Core.Path.{◌≡◌, refl, ap}
 use native.Mathlib.Omega.{arith}
 use Rattle.floats.specs.Tightness.{Determines}
@@ -20,10 +21,10 @@ same_written NoRoom Done h = absurd (omega (arith, h))
 same_written NoRoom BadParam h = absurd (omega (arith, h))
 same_written NoRoom NoRoom h = refl
 
-pub number_tight : Determines number.ended number.Reads.Learnt
+pub number_tight : Determines (ended_of _ number.Kinds.ps number.Kinds.r) number.Reads.Learnt
 number_tight κs a r q v w h k = (coincide h k, refl)
 
-pub write_tight : Determines write.ended write.Reads.Learnt
+pub write_tight : Determines (ended_of _ write.Kinds.ps write.Kinds.r) write.Reads.Learnt
 write_tight κs a r q v w h k =
     let same = coincide h k in
     (same_written r q (ap (λ (x : Handed). x.number) same), ap (λ (x : Handed). (tt, (tt, (x.bytes, tt)))) same)

@@ -1,4 +1,6 @@
 // The whole part of a float, worked out from its bits: the source's `as i32`, for numbers from 0 up to 131,072.
+#![tactic(auto)]
+
 ghost use Rattle.std.specs.Prelude.{◌≡◌, true};
 ghost use Rattle.std.specs.Float.Ieee.{le, lt};
 ghost use Rattle.floats.specs.F32.{f32, one32};

@@ -1,4 +1,5 @@
 -- Every public function's contract, as the kit reads it, determines its outcome. Assumes nothing.
+use borrow.Fn.Kinds.{ended_of}
 use mathlib.Core.Path.{refl}
 use Rattle.floats.specs.Tightness.{Determines}
 use Rattle.floats.proofs.Tightness.{coincide}
@@ -9,20 +10,20 @@ use Rattle.words.proofs.stores
 use Rattle.words.proofs.signed
 use Rattle.words.proofs.unsigned
 
-pub result_of_tight : Determines result_of.ended result_of.Reads.Learnt
+pub result_of_tight : Determines (ended_of _ result_of.Kinds.ps result_of.Kinds.r) result_of.Reads.Learnt
 result_of_tight κs a r q v w h k = (coincide h k, refl)
 
-pub no_bool_tight : Determines no_bool.ended no_bool.Reads.Learnt
+pub no_bool_tight : Determines (ended_of _ no_bool.Kinds.ps no_bool.Kinds.r) no_bool.Reads.Learnt
 no_bool_tight κs a r q v w h k = (coincide h k, refl)
 
-pub no_state_tight : Determines no_state.ended no_state.Reads.Learnt
+pub no_state_tight : Determines (ended_of _ no_state.Kinds.ps no_state.Kinds.r) no_state.Reads.Learnt
 no_state_tight κs a r q v w h k = (coincide h k, refl)
 
-pub stores_tight : Determines stores.ended stores.Reads.Learnt
+pub stores_tight : Determines (ended_of _ stores.Kinds.ps stores.Kinds.r) stores.Reads.Learnt
 stores_tight κs a r q v w h k = (coincide h k, refl)
 
-pub signed_tight : Determines signed.ended signed.Reads.Learnt
+pub signed_tight : Determines (ended_of _ signed.Kinds.ps signed.Kinds.r) signed.Reads.Learnt
 signed_tight κs a r q v w h k = (coincide h k, refl)
 
-pub unsigned_tight : Determines unsigned.ended unsigned.Reads.Learnt
+pub unsigned_tight : Determines (ended_of _ unsigned.Kinds.ps unsigned.Kinds.r) unsigned.Reads.Learnt
 unsigned_tight κs a r q v w h k = (coincide h k, refl)

@@ -1,0 +1,8 @@
+-- `ranges::targets::clip` meets its contract: each way of the test is the definition's. Assumes nothing.
+use Rattle.ranges.proofs.targets.clip.Goals as goal
+
+pub returns-then-frequency : goal.returns-then-frequency
+returns-then-frequency c = rw c.if-frequency.true
+
+pub returns-else-frequency : goal.returns-else-frequency
+returns-else-frequency c = rw c.if-frequency.false
