@@ -17,7 +17,7 @@ pub const NO_ROOM: u32 = 9;
 const SAMPLE_RATE: f32 = 48000.0;
 
 // The states that records play on, one of each kind.
-#[derive(Drop)]
+#[derive(Clone, Copy)]
 pub struct Bank {
     pub shape: variable_shape::State,
     pub saw: variable_saw::State,
@@ -28,7 +28,7 @@ pub struct Bank {
 }
 
 // What a record's line says after its index.
-#[derive(Drop)]
+#[derive(Clone, Copy)]
 pub struct Outcome {
     pub answer: u32,
     pub drift: u32,
@@ -36,7 +36,7 @@ pub struct Outcome {
 }
 
 // What a record makes of the bank.
-#[derive(Drop)]
+#[derive(Clone, Copy)]
 pub struct Played {
     pub bank: Bank,
     pub outcome: Outcome,

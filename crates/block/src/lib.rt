@@ -4,7 +4,7 @@ ghost use Rattle.block.specs.Answers.{number_of, index_of};
 ghost use Rattle.block.specs.Counting.{no_counts, plus, modulo32, one_if, late as lateOf};
 
 // 01, "Answer numbers".
-#[derive(Drop)]
+#[derive(Clone, Copy)]
 pub enum Answer {
     Done,
     LongBlock,
@@ -52,7 +52,7 @@ pub fn index(answer: Answer) -> u32
 }
 
 // The rises and falls are those that are not late. The late ones are kept apart, since a balance needs to know which they are.
-#[derive(Drop)]
+#[derive(Clone, Copy)]
 pub struct Counts {
     pub cycles: u32,
     pub rises: u32,

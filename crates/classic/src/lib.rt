@@ -27,7 +27,7 @@ pub use shapes::{Named, shape_of};
 pub use start::{Started, init};
 
 // The source's fields, in its order.
-#[derive(Drop)]
+#[derive(Clone, Copy)]
 pub struct State {
     pub phase: f32,
     pub next_sample: f32,
@@ -41,7 +41,7 @@ pub struct State {
 }
 
 // The source's shapes, in its order.
-#[derive(Drop)]
+#[derive(Clone, Copy)]
 pub enum OscillatorShape {
     ImpulseTrain,
     Saw,
@@ -71,7 +71,7 @@ pub fn new() -> State
 }
 
 // What a call gives.
-#[derive(Drop)]
+#[derive(Clone, Copy)]
 pub struct Rendered {
     pub answer: Answer,
     pub state: State,

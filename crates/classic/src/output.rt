@@ -4,7 +4,7 @@ ghost use Rattle.classic.specs.Output.{plain, impulse_train, integrated, square_
 
 use crate::{OscillatorShape, State};
 
-#[derive(Drop)]
+#[derive(Clone, Copy)]
 pub struct Output {
     pub sample: f32,
     pub lp_state: f32,

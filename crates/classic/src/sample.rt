@@ -8,7 +8,7 @@ use crate::{OscillatorShape, State, edges_of, output, shapes};
 use block::Counts;
 use edges::Edge;
 
-#[derive(Drop)]
+#[derive(Clone, Copy)]
 pub struct Sampled {
     pub sample: f32,
     pub state: State,

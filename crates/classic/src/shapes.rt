@@ -7,7 +7,7 @@ use crate::OscillatorShape;
 use rooms::Room;
 
 // What a number names.
-#[derive(Drop)]
+#[derive(Clone, Copy)]
 pub enum Named {
     NoShape,
     Shape(OscillatorShape),

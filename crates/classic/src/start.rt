@@ -10,7 +10,7 @@ use block::Answer;
 const REF_SAMPLE_RATE: f32 = 48000.0;
 
 // What a start gives.
-#[derive(Drop)]
+#[derive(Clone, Copy)]
 pub struct Started {
     pub answer: Answer,
     pub state: State,

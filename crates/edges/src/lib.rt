@@ -9,7 +9,7 @@ pub mod triangle;
 
 // How often `high` has turned true and false by a crossing so far, those that are late apart. Only the functions here make them: an oscillator
 // hands them on in its edge.
-#[derive(Drop)]
+#[derive(Clone, Copy)]
 pub struct Crossings {
     pub rises: u32,
     pub falls: u32,
@@ -19,7 +19,7 @@ pub struct Crossings {
 
 // The slave's phase and side, the sample and what the next one starts with; whether a master's wrap has reset the sample, and how many samples ago; and the
 // crossings so far.
-#[derive(Drop)]
+#[derive(Clone, Copy)]
 pub struct Edge {
     pub phase: f32,
     pub high: bool,
@@ -141,7 +141,7 @@ pub fn counts(cycles: u32, e: Edge, cuts: u32) -> Counts
 }
 
 // Where a hard sync reset finds the slave, and whether it had crossed by then.
-#[derive(Drop)]
+#[derive(Clone, Copy)]
 pub struct AtReset {
     pub slave_phase: f32,
     pub transition: bool,

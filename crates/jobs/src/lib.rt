@@ -9,7 +9,7 @@ mod unused;
 mod words;
 
 // One value with a case per kind, carrying that kind's floats.
-#[derive(Drop)]
+#[derive(Clone, Copy)]
 pub enum Settings {
     VariableShape {
         frequency: f32,
@@ -45,14 +45,14 @@ pub enum Settings {
 }
 
 // What a record asks for.
-#[derive(Drop)]
+#[derive(Clone, Copy)]
 pub enum Asked {
     BadRecord,
     Play(Settings),
 }
 
 // The registration stands beside the settings: an enum's case cannot hold an array. It is all zeros but for the string.
-#[derive(Drop)]
+#[derive(Clone, Copy)]
 pub struct Job {
     pub asked: Asked,
     pub block_length: u16,

@@ -2,7 +2,7 @@
 ghost use Rattle.std.specs.Prelude.{◌≡◌, ◌^◌, ◌≤◌};
 ghost use Rattle.nes_triangle.specs.Depth.{bits_in, tested_bits, top_of, scale_of, depth_of};
 
-#[derive(Drop)]
+#[derive(Clone, Copy)]
 pub struct Depth {
     pub num_steps: u32,
     pub half: u32,

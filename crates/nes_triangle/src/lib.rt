@@ -20,7 +20,7 @@ mod sample;
 mod step;
 
 // The source's fields, in its order.
-#[derive(Drop)]
+#[derive(Clone, Copy)]
 pub struct State {
     pub phase: f32,
     pub next_sample: f32,
@@ -56,7 +56,7 @@ pub fn init() -> State
 }
 
 // What a call gives.
-#[derive(Drop)]
+#[derive(Clone, Copy)]
 pub struct Rendered {
     pub answer: Answer,
     pub state: State,

@@ -11,7 +11,7 @@ use crate::sample::Sampled;
 use crate::{State, sample, step};
 
 // A state's step and the level that it has, each as a float.
-#[derive(Drop)]
+#[derive(Clone, Copy)]
 pub struct Held {
     pub at: f32,
     pub level: f32,

@@ -13,7 +13,7 @@ use crate::{State, step};
 use block::Counts;
 
 // A sample, and what it leaves behind: the state for the next one, and what 01 counts.
-#[derive(Drop)]
+#[derive(Clone, Copy)]
 pub struct Sampled {
     pub sample: f32,
     pub state: State,
@@ -21,14 +21,14 @@ pub struct Sampled {
 }
 
 // This sample, and what the next one starts with.
-#[derive(Drop)]
+#[derive(Clone, Copy)]
 pub struct Samples {
     pub this_sample: f32,
     pub next_sample: f32,
 }
 
 // Where a sample's step leads: the phase before any wrap and after it, the new step, and what happened on the way.
-#[derive(Drop)]
+#[derive(Clone, Copy)]
 pub struct Stepped {
     pub reached: f32,
     pub phase: f32,
@@ -38,7 +38,7 @@ pub struct Stepped {
 }
 
 // How loud the stepped triangle is, and how loud the naive one.
-#[derive(Drop)]
+#[derive(Clone, Copy)]
 pub struct Gains {
     pub nes_gain: f32,
     pub tri_gain: f32,

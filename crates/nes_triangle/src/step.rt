@@ -8,7 +8,7 @@ use crate::depth::Depth;
 use crate::sample::{Gains, Samples, Stepped};
 
 // What a sample has come to when its discontinuities are behind it. A step is made in few samples: one struct for all, so that what follows is there once.
-#[derive(Drop)]
+#[derive(Clone, Copy)]
 pub struct Reached {
     pub phase: f32,
     pub step: u32,

@@ -6,7 +6,7 @@
 ghost use Rattle.std.specs.Prelude.{◌≡◌};
 ghost use Rattle.parameter_interpolator.specs.Interpolator.{new_interpolator, next_interpolator};
 
-#[derive(Drop)]
+#[derive(Clone, Copy)]
 pub struct ParameterInterpolator {
     pub value: f32,
     pub increment: f32,

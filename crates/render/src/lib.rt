@@ -16,7 +16,7 @@ pub use form::{is_job_list, looks_like_text};
 pub const ROOM: usize = 90112;
 
 // How many bytes were written: the lines of all records, or the one line of a malformed list. Or the text would not have fitted, and nothing was.
-#[derive(Drop)]
+#[derive(Clone, Copy)]
 pub enum Written {
     Text(usize),
     BadInput(usize),

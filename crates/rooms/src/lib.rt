@@ -1,4 +1,6 @@
 // The five places of interpolators, the rooms of 01 by kind of parameter, the walk that looks for the first step outside its room, and the tests that spare it.
+#![tactic(auto)]
+
 ghost use Rattle.std.specs.Prelude.{◌≡◌, cond, ℕ, ◌≤◌, get_or};
 ghost use Rattle.rooms.specs.Rooms.{in_room};
 ghost use Rattle.rooms.specs.Steps.{still_one, moved, steps_of, first_outside};
@@ -30,7 +32,7 @@ pub fn advance(p: [ParameterInterpolator; 5]) -> [ParameterInterpolator; 5]
 }
 
 // What a parameter's steps are kept within. An unused one has no steps to test.
-#[derive(Drop)]
+#[derive(Clone, Copy)]
 pub enum Room {
     Unused,
     Frequency,
@@ -54,7 +56,7 @@ pub fn in_room(room: Room, x: f32) -> bool
     }
 }
 
-#[derive(Drop)]
+#[derive(Clone, Copy)]
 pub enum Found {
     Outside(u32),
     Nowhere,
@@ -115,7 +117,7 @@ pub fn safe(room: Room, value: f32, target: f32) -> bool
 }
 
 // The interpolators of a block, and whether each of its parameters is safe.
-#[derive(Drop)]
+#[derive(Clone, Copy)]
 pub struct Glides {
     pub interpolators: [ParameterInterpolator; 5],
     pub safe: bool,

@@ -12,7 +12,7 @@ mod sound;
 const ROOM: usize = 1_052_672;
 
 // The stem was written, of so many bytes. Or the input is malformed, or it has no stem, or the stem would not have fitted, and nothing was.
-#[derive(Drop)]
+#[derive(Clone, Copy)]
 pub enum Composed {
     Stem(usize),
     BadInput,

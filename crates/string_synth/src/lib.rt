@@ -19,7 +19,7 @@ mod sample;
 mod targets;
 
 // The source's fields, in its order.
-#[derive(Drop)]
+#[derive(Clone, Copy)]
 pub struct State {
     pub phase: f32,
     pub next_sample: f32,
@@ -64,7 +64,7 @@ pub fn init() -> State
 }
 
 // What a call gives.
-#[derive(Drop)]
+#[derive(Clone, Copy)]
 pub struct Rendered {
     pub answer: Answer,
     pub state: State,

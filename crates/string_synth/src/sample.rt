@@ -9,7 +9,7 @@ use block::Counts;
 use std::num::nearest_u32_to_f32;
 
 // The frequency of the saws, and how loud each of the four is.
-#[derive(Drop)]
+#[derive(Clone, Copy)]
 pub struct Saws {
     pub frequency: f32,
     pub saw_8_gain: f32,
@@ -19,7 +19,7 @@ pub struct Saws {
 }
 
 // The phases at which the saws of a segment start; the 8' saw, whose cycle is the whole, starts at 0.
-#[derive(Drop)]
+#[derive(Clone, Copy)]
 pub struct Starts {
     pub saw_4: f32,
     pub saw_2: f32,
@@ -27,7 +27,7 @@ pub struct Starts {
 }
 
 // Where a step has brought the phase: a sample in the making. Its segment is a whole part, never negative, and so unsigned.
-#[derive(Drop)]
+#[derive(Clone, Copy)]
 pub struct Reached {
     pub phase: f32,
     pub segment: u32,
@@ -38,7 +38,7 @@ pub struct Reached {
 }
 
 // A sample, and what it leaves behind: the state for the next one, and what 01 counts.
-#[derive(Drop)]
+#[derive(Clone, Copy)]
 pub struct Sampled {
     pub sample: f32,
     pub state: State,

@@ -5,7 +5,7 @@ ghost use Rattle.string_synth.specs.Targets.{lowered, placed_at, gain_between, t
 use crate::sample::Saws;
 
 // A frequency some octaves down, and the registration places that this shifts by.
-#[derive(Drop)]
+#[derive(Clone, Copy)]
 pub struct Octave {
     pub frequency: f32,
     pub shift: usize,

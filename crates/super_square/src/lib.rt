@@ -18,7 +18,7 @@ mod quiet;
 mod sample;
 
 // The source's fields, in its order.
-#[derive(Drop)]
+#[derive(Clone, Copy)]
 pub struct State {
     pub master_phase: f32,
     pub slave_phase: f32,
@@ -57,7 +57,7 @@ pub fn init() -> State
 }
 
 // What a call gives.
-#[derive(Drop)]
+#[derive(Clone, Copy)]
 pub struct Rendered {
     pub answer: Answer,
     pub state: State,

@@ -9,7 +9,7 @@ use crate::State;
 use block::Counts;
 use edges::Edge;
 
-#[derive(Drop)]
+#[derive(Clone, Copy)]
 pub struct Sampled {
     pub sample: f32,
     pub state: State,
@@ -18,7 +18,7 @@ pub struct Sampled {
 
 // A sample before its crossings: the master's phase and the slave's edge after their steps, and whether the crossing loop runs. After a reset the
 // slave starts anew at `restart`.
-#[derive(Drop)]
+#[derive(Clone, Copy)]
 pub struct Start {
     pub master_phase: f32,
     pub reset: bool,
@@ -28,7 +28,7 @@ pub struct Start {
 }
 
 // How the crossings leave the slave, and what is counted beside them.
-#[derive(Drop)]
+#[derive(Clone, Copy)]
 pub struct End {
     pub slave_phase: f32,
     pub high: bool,

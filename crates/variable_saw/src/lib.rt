@@ -18,7 +18,7 @@ mod quiet;
 mod sample;
 
 // The source's fields, in its order.
-#[derive(Drop)]
+#[derive(Clone, Copy)]
 pub struct State {
     pub phase: f32,
     pub next_sample: f32,
@@ -60,7 +60,7 @@ pub fn init() -> State
 }
 
 // What a call gives.
-#[derive(Drop)]
+#[derive(Clone, Copy)]
 pub struct Rendered {
     pub answer: Answer,
     pub state: State,

@@ -9,7 +9,7 @@ use edges::{Edge, triangle};
 
 const VARIABLE_SAW_NOTCH_DEPTH: f32 = 0.2;
 
-#[derive(Drop)]
+#[derive(Clone, Copy)]
 pub struct Sampled {
     pub sample: f32,
     pub state: State,
@@ -17,7 +17,7 @@ pub struct Sampled {
 }
 
 // The waveform of one sample, from its steps of pulse width and waveshape.
-#[derive(Drop)]
+#[derive(Clone, Copy)]
 pub struct Wave {
     pub pw: f32,
     pub slope_up: f32,

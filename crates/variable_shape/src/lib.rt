@@ -25,7 +25,7 @@ mod waveform;
 pub use master_phase::{PhaseSet, set_master_phase, set_master_phase_in};
 
 // The source's fields, in its order.
-#[derive(Drop)]
+#[derive(Clone, Copy)]
 pub struct State {
     pub master_phase: f32,
     pub slave_phase: f32,
@@ -76,7 +76,7 @@ pub fn init() -> State
 }
 
 // What a call gives.
-#[derive(Drop)]
+#[derive(Clone, Copy)]
 pub struct Rendered {
     pub answer: Answer,
     pub state: State,

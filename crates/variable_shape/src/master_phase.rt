@@ -6,7 +6,7 @@ use crate::State;
 use block::Answer;
 
 // What setting the master's phase gives.
-#[derive(Drop)]
+#[derive(Clone, Copy)]
 pub struct PhaseSet {
     pub answer: Answer,
     pub state: State,

@@ -10,7 +10,7 @@ use crate::{State, output, waveform};
 use block::Counts;
 use edges::{Edge, triangle};
 
-#[derive(Drop)]
+#[derive(Clone, Copy)]
 pub struct Sampled {
     pub sample: f32,
     pub state: State,
@@ -19,7 +19,7 @@ pub struct Sampled {
 
 // A sample before its crossings: the master's phase and the slave's edge after their steps, and whether the crossing loop runs. After a reset the
 // slave starts anew at `restart`.
-#[derive(Drop)]
+#[derive(Clone, Copy)]
 pub struct Start {
     pub master_phase: f32,
     pub reset: bool,
@@ -29,7 +29,7 @@ pub struct Start {
 }
 
 // How the crossings leave the slave, and what is counted beside them.
-#[derive(Drop)]
+#[derive(Clone, Copy)]
 pub struct End {
     pub slave_phase: f32,
     pub high: bool,

@@ -4,7 +4,7 @@ ghost use Rattle.rooms.proofs.Places.{place};
 
 use parameter_interpolator::ParameterInterpolator;
 
-#[derive(Drop)]
+#[derive(Clone, Copy)]
 pub struct Steps {
     pub master_frequency: f32,
     pub slave_frequency: f32,

@@ -7,7 +7,7 @@ use crate::steps::Steps;
 use edges::triangle;
 
 // What the crossings of the sample need of its steps, and the width of the sample before.
-#[derive(Drop)]
+#[derive(Clone, Copy)]
 pub struct Waveform {
     pub slave_frequency: f32,
     pub previous_pw: f32,

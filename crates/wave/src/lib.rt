@@ -17,7 +17,7 @@ pub const MOST_SAMPLES: usize = 1_048_576;
 pub const ROOM: usize = 2_097_196;
 
 // The stem was written. Or a rate, a count or a sample is unfit, or the stem would not have fitted, and nothing was.
-#[derive(Drop)]
+#[derive(Clone, Copy)]
 pub enum Written {
     Done,
     BadParam,
