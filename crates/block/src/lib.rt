@@ -1,4 +1,6 @@
 // What a call answers and counts, for every oscillator.
+#![tactic(auto)]
+
 ghost use Rattle.std.specs.Prelude.{◌≡◌};
 ghost use Rattle.block.specs.Answers.{number_of, index_of};
 ghost use Rattle.block.specs.Counting.{no_counts, plus, modulo32, one_if, late as lateOf};

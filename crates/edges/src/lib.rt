@@ -1,4 +1,6 @@
 // A sample in the making, for the oscillators that rise and fall: what it has crossed so far, and a hard sync reset of it.
+#![tactic(auto)]
+
 ghost use Rattle.std.specs.Prelude.{◌≡◌};
 ghost use Rattle.edges.specs.Counted.{is_late, start_of, rose as roseOf, fell_if, risen_of, fallen_of, wrapped_of, counts_of};
 ghost use Rattle.edges.specs.Sync.{slave_at_reset, wrap_once, transition_during_reset, at_reset_of, cut_edge};

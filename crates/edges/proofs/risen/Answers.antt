@@ -1,0 +1,6 @@
+-- `edges::risen` meets its contract. Assumes nothing.
+use Rattle.std.proofs.Common.{rules}
+use Rattle.edges.proofs.risen.Goals as goal
+
+pub returns : goal.returns
+returns c = rw (c.rose.ensures, c.is_late.ensures)
