@@ -1,6 +1,0 @@
--- `edges::fell_if` meets its contract. Assumes nothing.
-use Rattle.std.proofs.Common.{rules}
-use Rattle.edges.proofs.fell_if.Goals as goal
-
-pub returns : goal.returns
-returns c = rw (c.wrapping_add_u32-2.ensures, c.one_if-2.ensures, c.wrapping_add_u32.ensures, c.one_if.ensures)
