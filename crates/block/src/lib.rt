@@ -3,7 +3,7 @@
 
 ghost use Rattle.std.specs.Prelude.{◌≡◌};
 ghost use Rattle.block.specs.Answers.{number_of, index_of};
-ghost use Rattle.block.specs.Counting.{no_counts, plus, modulo32, one_if, late as lateOf};
+ghost use Rattle.block.specs.Counting.{no_counts, plus, modulo32, one_if, late as is_late_of};
 
 // 01, "Answer numbers".
 #[derive(Clone, Copy)]
@@ -94,7 +94,7 @@ pub fn sum(a: Counts, b: Counts) -> Counts
 
 // The fifth number that is told: the late rises and the late falls together, modulo 2^32 too.
 pub fn late(c: Counts) -> u32
-    ensures { result ≡ lateOf c }
+    ensures { result ≡ is_late_of c }
 {
     std::num::wrapping_add_u32(c.late_rises, c.late_falls)
 }

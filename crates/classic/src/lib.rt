@@ -1,4 +1,6 @@
 // The classic waveforms over one phase, eight shapes: the source's oscillator/oscillator.rs, without external FM and without through-zero.
+#![tactic(auto)]
+
 ghost use Rattle.std.specs.Prelude.{◌≡◌};
 ghost use Rattle.rooms.proofs.Padding.{used};
 ghost use Rattle.rooms.proofs.Guard.{glides_of};

@@ -23,7 +23,7 @@ use Rattle.nes_triangle.proofs.Phase as Nes
 use Rattle.string_synth.specs.Block.{state_in, registration_in, Arguments, string_synth}
 use Rattle.string_synth.proofs.Phase as String
 use Rattle.string_synth.proofs.Accepted.{too_high_is_5}
-use Rattle.classic.specs.Block.{classic as classicOscillator}
+use Rattle.classic.specs.Block.{classic as classic_oscillator}
 use Rattle.classic.proofs.Phase as Classic
 use Rattle.demands.specs.Demand1.{Demand1}
 
@@ -52,7 +52,7 @@ nes_triangle_lem = demand1 Nes.laws
 pub string_synth_lem : Demand1 string_synth
 string_synth_lem = demand1 String.laws
 
-pub classic : Demand1 classicOscillator
+pub classic : Demand1 classic_oscillator
 classic = demand1 Classic.laws
 
 -- "A string pitch too high has a number of its own": above 0.5 and at most 1 it is refused with 5, where nothing that is tested before it is unfit

@@ -14,7 +14,7 @@ use Rattle.nes_triangle.specs.Block.{nes_triangle}
 use Rattle.nes_triangle.proofs.Phase as Nes
 use Rattle.string_synth.specs.Block.{string_synth}
 use Rattle.string_synth.proofs.Phase as String
-use Rattle.classic.specs.Block.{classic as classicOscillator}
+use Rattle.classic.specs.Block.{classic as classic_oscillator}
 use Rattle.classic.proofs.Phase as Classic
 use Rattle.demands.specs.Demand2.{Demand2}
 
@@ -36,5 +36,5 @@ nes_triangle_lem = demand2 Nes.laws
 pub string_synth_lem : Demand2 string_synth
 string_synth_lem = demand2 String.laws
 
-pub classic : Demand2 classicOscillator
+pub classic : Demand2 classic_oscillator
 classic = demand2 Classic.laws

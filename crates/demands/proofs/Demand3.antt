@@ -16,7 +16,7 @@ use Rattle.nes_triangle.specs.Block.{nes_triangle}
 use Rattle.nes_triangle.proofs.Phase as Nes
 use Rattle.string_synth.specs.Block.{string_synth}
 use Rattle.string_synth.proofs.Phase as String
-use Rattle.classic.specs.Block.{classic as classicOscillator}
+use Rattle.classic.specs.Block.{classic as classic_oscillator}
 use Rattle.classic.proofs.Phase as Classic
 use Rattle.demands.specs.Demand3.{Demand3, Balance, NoFallsNorCuts}
 
@@ -47,7 +47,7 @@ unfolding tick
 string_synth_lem = demand3 String.laws
 
 -- whichever shape each call of a chain has
-pub classic : Demand3 classicOscillator (2 ^ 149) (2 ^ 125)
+pub classic : Demand3 classic_oscillator (2 ^ 149) (2 ^ 125)
 unfolding tick
 classic = demand3 Classic.laws
 
@@ -61,7 +61,7 @@ variable_shape_balance sync s f a = call_balanced (Shape.laws sync) s f a (λ q.
 pub variable_saw_balance : Balance variable_saw (λ s. s.high)
 variable_saw_balance s f a = call_balanced Saw.laws s f a (λ q. q.high) Saw.sample_balanced
 
-pub classic_balance : Balance classicOscillator (λ s. s.high)
+pub classic_balance : Balance classic_oscillator (λ s. s.high)
 classic_balance s f a = call_balanced Classic.laws s f a (λ q. q.high) (Classic.sample_balanced a.shape)
 
 pub nes_triangle_neither : NoFallsNorCuts nes_triangle

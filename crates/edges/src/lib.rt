@@ -2,7 +2,7 @@
 #![tactic(auto)]
 
 ghost use Rattle.std.specs.Prelude.{◌≡◌};
-ghost use Rattle.edges.specs.Counted.{is_late, start_of, rose as roseOf, fell_if, risen_of, fallen_of, wrapped_of, counts_of};
+ghost use Rattle.edges.specs.Counted.{is_late, start_of, rose as rose_of, fell_if, risen_of, fallen_of, wrapped_of, counts_of};
 ghost use Rattle.edges.specs.Sync.{slave_at_reset, wrap_once, transition_during_reset, at_reset_of, cut_edge};
 
 use block::Counts;
@@ -61,7 +61,7 @@ pub fn start(phase: f32, high: bool, this_sample: f32) -> Edge
 
 // One rise more, late or not. Modulo 2^32 any count may be given; a sample never rises more than twice.
 fn rose(c: Crossings, late: bool) -> Crossings
-    ensures { result ≡ roseOf late c }
+    ensures { result ≡ rose_of late c }
 {
     Crossings {
         rises: std::num::wrapping_add_u32(c.rises, block::one_if(!late)),

@@ -1,11 +1,11 @@
 // The triangle that the variable shape and the variable saw mix in, and the time of an edge at a width that moves.
 ghost use Rattle.std.specs.Prelude.{◌≡◌};
 ghost use Rattle.floats.specs.F32.{◌⊖◌, ◌⊘◌, one32};
-ghost use Rattle.edges.specs.Triangle.{triangle as triangleOf, triangle_step, rise_time};
+ghost use Rattle.edges.specs.Triangle.{triangle as triangle_of, triangle_step, rise_time};
 
 // Up to 1 at the width, and down again to 0 at the end of the cycle. The width itself is on the way down.
 pub fn triangle(phase: f32, pw: f32, slope_up: f32, slope_down: f32) -> f32
-    ensures { result ≡ triangleOf phase pw slope_up slope_down }
+    ensures { result ≡ triangle_of phase pw slope_up slope_down }
 {
     if phase < pw {
         phase * slope_up
@@ -16,7 +16,7 @@ pub fn triangle(phase: f32, pw: f32, slope_up: f32, slope_down: f32) -> f32
 
 // The same between 0 and 1, with the one slope worked out that the phase is on: an edge has both slopes at hand, and a sample without one needs no more.
 pub fn triangle_at(phase: f32, pw: f32) -> f32
-    ensures { result ≡ triangleOf phase pw (one32 ⊘ pw) (one32 ⊘ (one32 ⊖ pw)) }
+    ensures { result ≡ triangle_of phase pw (one32 ⊘ pw) (one32 ⊘ (one32 ⊖ pw)) }
 {
     if phase < pw {
         phase * (1.0 / pw)

@@ -3,7 +3,7 @@ use Rattle.std.specs.Prelude.{Bool, false, List, [], ◌∷◌, ℕ, eqb, get_or
 use Rattle.floats.specs.F32.{f32, zero32}
 use Rattle.block.specs.declared.Counts.{Counts}
 use Rattle.super_square.specs.declared.State.{State as Square}
-use Rattle.super_square.specs.Sample.{sample_of as squareSample}
+use Rattle.super_square.specs.Sample.{sample_of as square_sample}
 use Rattle.variable_shape.specs.declared.State.{State as Shape}
 use Rattle.variable_shape.specs.declared.steps.Steps.{Steps}
 use Rattle.variable_shape.specs.Sample.{sample_of as shape_sample}
@@ -48,4 +48,4 @@ square_at inputs = record {
 }
 
 abbrev pub square_figure : List ℕ → List ℕ
-square_figure inputs = counted (squareSample (square_at inputs) (float inputs 1) (float inputs 3)).counts
+square_figure inputs = counted (square_sample (square_at inputs) (float inputs 1) (float inputs 3)).counts

@@ -1,4 +1,6 @@
 // A triangle approximated by discrete steps: the source's oscillator/nes_triangle_oscillator.rs.
+#![tactic(auto)]
+
 ghost use Rattle.std.specs.Prelude.{◌≡◌, [], ◌∷◌};
 ghost use Rattle.rooms.specs.Steps.{still_one};
 ghost use Rattle.rooms.proofs.Padding.{used};

@@ -12,7 +12,7 @@ use lib.Seq.{take_at}
 use Rattle.floats.proofs.Bools.{and_both}
 use Rattle.block.specs.declared.Answer.{Answer}
 use Rattle.block.specs.declared.Answer.TheVariants.{BadInput}
-use Rattle.block.specs.Answers.{number_of as answerNumber}
+use Rattle.block.specs.Answers.{number_of as answer_number}
 use Rattle.block.specs.Counting.{told}
 use Rattle.bank.specs.declared.Outcome.{Outcome}
 use Rattle.bank.specs.Bank.{init_bank}
@@ -30,7 +30,7 @@ module _ (list : List ℕ) where
   unfolding text_of
   good_list h = rw h
 
-  pub bad_list : is_job_list list ≡ false → text_of list ≡ number_then (answerNumber BadInput) 10
+  pub bad_list : is_job_list list ≡ false → text_of list ≡ number_then (answer_number BadInput) 10
   unfolding text_of line_of
   bad_list h = rw h
 
@@ -43,7 +43,7 @@ module _ (good : Bool) (text d : List ℕ) where
   unfolding laid written
   handed r d' h w = rw (le-leb (length text) (length d) h, w.next, w.same, zero-add) (by_answer good)
     where
-      by_answer : (t : Bool) → handed_back (fitted_of t (length text)) (text ++ drop (length text) d) ≡ record { number = answerNumber (answer_if t); count = length text; buffer = text ++ drop (length text) d }
+      by_answer : (t : Bool) → handed_back (fitted_of t (length text)) (text ++ drop (length text) d) ≡ record { number = answer_number (answer_if t); count = length text; buffer = text ++ drop (length text) d }
       by_answer true = refl
       by_answer false = refl
 
@@ -56,7 +56,7 @@ pub inside : (r : Written) (d' : List ℕ) (answer : Answer) (text d : List ℕ)
 unfolding written
 inside r d' answer text d = go (leb (length text) (length d))
   where
-    go : (t : Bool) → handed_back r d' ≡ cond t (record { number = answerNumber answer; count = length text; buffer = text ++ drop (length text) d }) (record { number = 9; count = 0; buffer = d })
+    go : (t : Bool) → handed_back r d' ≡ cond t (record { number = answer_number answer; count = length text; buffer = text ++ drop (length text) d }) (record { number = 9; count = 0; buffer = d })
         → count_of r ≤ length d'
     go true h = omega (arith, ap (λ (x : Handed). x.count) h, ap (λ (x : Handed). length x.buffer) h, length-append text (drop (length text) d))
     go false h = omega (arith, ap (λ (x : Handed). x.count) h)
@@ -84,10 +84,10 @@ text_long list = go (is_job_list list) refl
   where
     go : (t : Bool) → is_job_list list ≡ t → length (text_of list) ≤ 90112
     go true h = rw (good_list list h) (omega (arith, few_records list h, lines_long (records_from list 0 (length list / 64)), how_many list 0 (length list / 64)))
-    go false h = rw (bad_list list h) (omega (arith, number_long (answerNumber BadInput) 10))
+    go false h = rw (bad_list list h) (omega (arith, number_long (answer_number BadInput) 10))
 
 -- a buffer of the size that the library names is never too short: the number is 8 for a malformed list, and 0 for every other
-pub always_room : (list d : List ℕ) → 90112 ≤ length d → (render_of list d).number ≡ answerNumber (answer_if (is_job_list list))
+pub always_room : (list d : List ℕ) → 90112 ≤ length d → (render_of list d).number ≡ answer_number (answer_if (is_job_list list))
 unfolding written
 always_room list d h = rw (le-leb (length (text_of list)) (length d) (omega (arith, text_long list)))
 

@@ -2,7 +2,7 @@
 use Rattle.std.specs.Prelude.{Bool, ◌&&◌, cond, List, [], ◌∷◌, ◌++◌, ℕ, zero, suc, ◌+◌, ◌/◌, ◌%◌, leb, eqb, length, drop}
 use Rattle.block.specs.declared.Answer.{Answer}
 use Rattle.block.specs.declared.Answer.TheVariants.{Done, BadInput}
-use Rattle.block.specs.Answers.{number_of as answerNumber}
+use Rattle.block.specs.Answers.{number_of as answer_number}
 use Rattle.block.specs.Counting.{one_if}
 use Rattle.jobs.specs.Words.{record_of}
 use Rattle.bank.specs.declared.Bank.{Bank}
@@ -40,7 +40,7 @@ unfoldable pub text_of : List ℕ → List ℕ
 text_of list =
     cond (is_job_list list)
     (lines_of (records_from list 0 (length list / 64)))
-    (line_of (answerNumber BadInput ∷ []))
+    (line_of (answer_number BadInput ∷ []))
 
 -- the renderer's answer to an input: each record's own stands in its line
 abbrev pub answer_if : Bool → Answer
@@ -57,7 +57,7 @@ pub record Handed : Type 0 where
 unfoldable pub written : Answer → List ℕ → List ℕ → Handed
 written answer text d =
     cond (leb (length text) (length d))
-    (record { number = answerNumber answer; count = length text; buffer = text ++ drop (length text) d })
+    (record { number = answer_number answer; count = length text; buffer = text ++ drop (length text) d })
     (record { number = 9; count = 0; buffer = d })
 
 -- a job list's text in a lent buffer: 8, BadInput, where it is malformed, and else 0
@@ -66,8 +66,8 @@ render_of list d = written (answer_if (is_job_list list)) (text_of list) d
 
 -- the same of what the function answered, by cases: its number, its count, and both beside the buffer
 abbrev pub number_of : Written → ℕ
-number_of (Text n) = answerNumber Done
-number_of (Malformed n) = answerNumber BadInput
+number_of (Text n) = answer_number Done
+number_of (Malformed n) = answer_number BadInput
 number_of NoRoom = 9
 
 abbrev pub count_of : Written → ℕ

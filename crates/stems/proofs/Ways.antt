@@ -14,14 +14,14 @@ use Rattle.floats.proofs.Bools.{and_both}
 use Rattle.render.specs.Lists.{is_job_list}
 use Rattle.wave.specs.declared.Written.{Written}
 use Rattle.wave.specs.declared.Written.TheVariants.{Done, BadParam, NoRoom}
-use Rattle.wave.specs.Write.{is_fit, write_of, handed_back as waveBack}
+use Rattle.wave.specs.Write.{is_fit, write_of, handed_back as wave_back}
 use Rattle.wave.proofs.Putting.{stem_long}
 use Rattle.stems.specs.declared.Composed.TheVariants.{Stem, BadInput, BadParam as Unfit, NoRoom as TooShort}
 use Rattle.stems.specs.Compose.{given_rate, is_input, sound_in, Handed, written, compose_of, handed_back}
 use Rattle.stems.specs.Private.{Laid}
 
 -- ---- what `wave` answered, and what is made of that
-module _ (rate : ℕ) (xs : List Float) (d d' : List ℕ) (r : Written) (e : waveBack r d' ≡ write_of rate xs d) where
+module _ (rate : ℕ) (xs : List Float) (d d' : List ℕ) (r : Written) (e : wave_back r d' ≡ write_of rate xs d) where
   pub done_way : r ≡ Done → handed_back (Stem (44 + 2 * length xs)) d' ≡ written rate xs d
   unfolding written
   done_way h = rw (← e, h, stem_long rate xs)

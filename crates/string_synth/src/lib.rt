@@ -1,4 +1,6 @@
 // A mixture of saws and squares in the style of divide-down organs: the source's oscillator/string_synth_oscillator.rs.
+#![tactic(auto)]
+
 ghost use Rattle.std.specs.Prelude.{◌≡◌, ◌&&◌, []};
 ghost use Rattle.rooms.proofs.Padding.{used};
 ghost use Rattle.rooms.proofs.Guard.{glides_of};

@@ -1,4 +1,6 @@
 // Two hard-synced square waves with one shape parameter: the source's oscillator/super_square_oscillator.rs.
+#![tactic(auto)]
+
 ghost use Rattle.std.specs.Prelude.{◌≡◌, [], ◌∷◌};
 ghost use Rattle.rooms.specs.Steps.{still_one};
 ghost use Rattle.rooms.proofs.Padding.{used};

@@ -2,7 +2,7 @@
 ghost use Rattle.std.specs.Prelude.{◌≡◌};
 ghost use Rattle.floats.specs.F32.{half32};
 ghost use Rattle.edges.specs.Private.{Crossable};
-ghost use Rattle.super_square.specs.Sample.{level as levelOf, rise_of, fall_of, crossed, edge_of, after as stateAfter, finish as finished, sample_of};
+ghost use Rattle.super_square.specs.Sample.{level as level_of, rise_of, fall_of, crossed, edge_of, after as state_after, finish as finished, sample_of};
 ghost use Rattle.super_square.specs.Private.{Ready, reset_start, plain_start, begun, crossed_if, end_of};
 
 use crate::State;
@@ -38,7 +38,7 @@ pub struct End {
 
 // The square without its smoothing, lines 90 and 127. The source has no function for it, and writes it twice.
 pub(crate) fn level(phase: f32) -> f32
-    ensures { result ≡ levelOf phase }
+    ensures { result ≡ level_of phase }
 {
     if phase < 0.5 { 0.0 } else { 1.0 }
 }
@@ -176,7 +176,7 @@ fn after(
     master_frequency: f32,
     slave_frequency: f32,
 ) -> State
-    ensures { result ≡ stateAfter e master_phase slave_phase high master_frequency slave_frequency }
+    ensures { result ≡ state_after e master_phase slave_phase high master_frequency slave_frequency }
 {
     State {
         master_phase,

@@ -1,4 +1,6 @@
 // A saw with variable slope or notch: the source's oscillator/variable_saw_oscillator.rs.
+#![tactic(auto)]
+
 ghost use Rattle.std.specs.Prelude.{◌≡◌, [], ◌∷◌};
 ghost use Rattle.rooms.specs.Steps.{still_one};
 ghost use Rattle.rooms.proofs.Padding.{used};

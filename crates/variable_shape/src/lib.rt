@@ -1,4 +1,6 @@
 // A waveform from triangle over saw to square, whose phase can be reset by a master: the source's oscillator/variable_shape_oscillator.rs.
+#![tactic(auto)]
+
 ghost use Rattle.std.specs.Prelude.{◌≡◌, true, []};
 ghost use Rattle.rooms.proofs.Padding.{used};
 ghost use Rattle.rooms.proofs.Guard.{glides_of};

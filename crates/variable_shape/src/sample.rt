@@ -1,7 +1,7 @@
 // One sample of the variable shape, in the source's order: variable_shape_oscillator.rs, lines 95 to 210.
 ghost use Rattle.std.specs.Prelude.{◌≡◌};
 ghost use Rattle.edges.specs.Private.{Crossable};
-ghost use Rattle.variable_shape.specs.Sample.{rise_of, fall_of, crossed, edge_of, master_step, after as stateAfter, finish as finished, free_cycles, sample_of};
+ghost use Rattle.variable_shape.specs.Sample.{rise_of, fall_of, crossed, edge_of, master_step, after as state_after, finish as finished, free_cycles, sample_of};
 ghost use Rattle.variable_shape.specs.Private.{Ready, reset_start, plain_start, begun, crossed_if, end_of};
 
 use crate::steps::Steps;
@@ -206,7 +206,7 @@ fn after(
     high: bool,
     steps: Steps,
 ) -> State
-    ensures { result ≡ stateAfter w e master_phase slave_phase high steps }
+    ensures { result ≡ state_after w e master_phase slave_phase high steps }
 {
     State {
         master_phase,

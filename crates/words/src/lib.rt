@@ -1,4 +1,6 @@
 // What the faces share: the seven words of a result, words that are no state, when a state is stored, and whole numbers as words.
+#![tactic(auto)]
+
 ghost use Rattle.std.specs.Prelude.{◌≡◌, ◌∷◌};
 ghost use Rattle.block.specs.Answers.{number_of};
 ghost use Rattle.block.specs.Counting.{no_counts, told};

@@ -1,0 +1,10 @@
+-- `classic::edges_of::square_wrap` meets its contract. Assumes nothing.
+use Rattle.std.proofs.Common.{refl, rules}
+use Rattle.classic.specs.Edges.{square_wrap}
+use Rattle.classic.proofs.edges_of.square_wrap.Goals as goal
+
+pub returns : goal.returns
+unfolding square_wrap
+returns c =
+    let n = c in
+    rw (c.turn.ensures, n.next_blep_sample.ensures, n.this_blep_sample.ensures) refl

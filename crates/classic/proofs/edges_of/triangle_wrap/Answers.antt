@@ -1,0 +1,10 @@
+-- `classic::edges_of::triangle_wrap` meets its contract. Assumes nothing.
+use Rattle.std.proofs.Common.{refl, rules}
+use Rattle.classic.specs.Edges.{triangle_wrap}
+use Rattle.classic.proofs.edges_of.triangle_wrap.Goals as goal
+
+pub returns : goal.returns
+unfolding triangle_wrap
+returns c =
+    let n = c in
+    rw (c.turn.ensures, n.next_integrated_blep_sample.ensures, n.this_integrated_blep_sample.ensures) refl

@@ -1,0 +1,6 @@
+-- `classic::quiet::is_quiet` meets its contract. Assumes nothing.
+use Rattle.std.proofs.Common.{rules}
+use Rattle.classic.proofs.quiet.is_quiet.Goals as goal
+
+pub returns : goal.returns
+returns c = rw (c.turns.ensures, c.width_of_lem.ensures)

@@ -1,0 +1,17 @@
+-- `nes_triangle::depth::of_bits` meets its contract. Assumes nothing.
+use Rattle.std.proofs.Common.{refl, pow_pos, rules}
+use Rattle.nes_triangle.specs.Depth.{depth_of}
+use Rattle.nes_triangle.proofs.Depths.{two_steps, top_some}
+use Rattle.nes_triangle.proofs.depth.of_bits.Goals as goal
+
+pub top-top-requires : goal.top-top-requires
+top-top-requires c = rw c.steps-num_steps.ensures (pow_pos _)
+
+pub scale-requires : goal.scale-requires
+scale-requires c =
+    let t = c in
+    top_some t.steps-num_steps.result _ (rw t.steps-num_steps.ensures (two_steps _ t.requires.0)) c.top-top.ensures
+
+pub returns : goal.returns
+unfolding depth_of
+returns c = rw (c.scale.ensures, c.nearest_u32_to_f32.ensures, c.top-top.ensures, c.steps-num_steps.ensures) refl

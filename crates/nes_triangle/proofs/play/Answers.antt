@@ -1,0 +1,69 @@
+-- `nes_triangle::play` meets its contract: the loop's law is `block`'s, for any oscillator. Between samples the state's step and its level are held. Assumes nothing.
+use Rattle.std.proofs.Common.{◌-◌, length, sym, ◌∙◌, arith, rules}
+use Rattle.block.proofs.Turns.{Turning, turning_start, turning_more, turning_end}
+use Rattle.nes_triangle.specs.Sample.{sample_at}
+use Rattle.nes_triangle.specs.Block.{rooms}
+use Rattle.nes_triangle.specs.Private.{Passed}
+use Rattle.nes_triangle.proofs.Keeping.{keeps}
+use Rattle.nes_triangle.proofs.Held.{Holds, holdable}
+use Rattle.nes_triangle.proofs.Playing.{ready, made, held_next, quiet_turn}
+use Rattle.nes_triangle.proofs.play.Goals as goal
+
+pub hold-held-requires : goal.hold-held-requires
+hold-held-requires c = holdable c.of_bits-d.ensures c.requires.fit.valid
+
+pub loop-i-init : goal.loop-i-init
+loop-i-init c =
+    let h = c in
+    let b = h in
+    (turning_start (omega (arith, b.well_formed.1.1.0.1.0.1)) c.none-counts.ensures b.requires, h.hold-held.ensures)
+
+pub sample-q-requires : goal.sample-q-requires
+sample-q-requires c =
+    let a = c in
+    let t = a in
+    let l = t in
+    let inv = l.loop-i.invariant in
+    (ready inv.0 t.loop-i-test.true a.advance-moving.ensures l.of_bits-d.ensures, (inv.1, sym c.is_quiet.ensures ∙ c.if-is_quiet.true))
+
+pub loop-i-preserved-then-is_quiet : goal.loop-i-preserved-then-is_quiet
+loop-i-preserved-then-is_quiet c =
+    let u = c in
+    let a = u in
+    let t = a in
+    let l = t in
+    let inv = l.loop-i.invariant in
+    quiet_turn inv.0 t.loop-i-test.true a.advance-moving.ensures l.of_bits-d.ensures c.sample-q.ensures inv.1 (sym u.is_quiet.ensures ∙ u.if-is_quiet.true)
+
+pub sample-t-requires : goal.sample-t-requires
+sample-t-requires c =
+    let a = c in
+    let t = a in
+    let l = t in
+    ready l.loop-i.invariant.0 t.loop-i-test.true a.advance-moving.ensures l.of_bits-d.ensures
+
+pub hold-held-requires-else-is_quiet : goal.hold-held-requires-else-is_quiet
+hold-held-requires-else-is_quiet c =
+    let a = c in
+    let t = a in
+    let l = t in
+    held_next l.loop-i.invariant.0 t.loop-i-test.true a.advance-moving.ensures l.of_bits-d.ensures c.sample-t.ensures
+
+pub loop-i-preserved : goal.loop-i-preserved
+loop-i-preserved c =
+    let u = c in
+    let a = u in
+    let t = a in
+    let l = t in
+    let inv = l.loop-i.invariant.0 in
+    let e = made inv t.loop-i-test.true a.advance-moving.ensures l.of_bits-d.ensures u.sample-t.ensures in
+    (turning_more inv t.loop-i-test.true a.advance-moving.ensures (keeps _) c.sum-counts.ensures e, c.hold-held-else-is_quiet.ensures)
+
+pub of_bits-d-requires : goal.of_bits-d-requires
+of_bits-d-requires c = let b = c.requires.fit.valid.bits_in in (b.low, b.high)
+
+pub shape_of-out : goal.shape_of-out
+shape_of-out c = c.loop-i.invariant.0.long
+
+pub returns : goal.returns
+returns c = turning_end c.loop-i.invariant.0 c.loop-i-test.false

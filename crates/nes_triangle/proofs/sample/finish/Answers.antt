@@ -1,0 +1,15 @@
+-- `nes_triangle::sample::finish` meets its contract. Assumes nothing.
+use Rattle.std.proofs.Common.{pos, arith, to_z-of_z, w32, SFits, rules}
+use Rattle.nes_triangle.specs.Sample.{finish}
+use Rattle.nes_triangle.specs.Private.{reached_of}
+use Rattle.nes_triangle.proofs.sample.finish.Goals as goal
+
+pub returns : goal.returns
+unfolding finish reached_of
+returns c =
+    let l = c in
+    let f = l in
+    let n = f in
+    let a = n in
+    let step_fits : SFits w32 (pos a.args.e.step) = record { sfits = omega (arith, a.requires.0, a.requires.1) } in
+    λ s t x e. rw (l.tri_level.ensures, f.small-level.ensures, n.nes_level.ensures.0, to_z-of_z step_fits, e)

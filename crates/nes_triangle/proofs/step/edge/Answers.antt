@@ -1,0 +1,16 @@
+-- `nes_triangle::step::edge` meets its contract: each way of the test is the definition's. Assumes nothing.
+use Rattle.nes_triangle.specs.Sample.{edge_of}
+use Rattle.std.proofs.Common.{rules}
+use Rattle.nes_triangle.proofs.step.edge.Goals as goal
+
+pub returns-then-t-discontinuity : goal.returns-then-t-discontinuity
+unfolding edge_of
+returns-then-t-discontinuity c =
+    let n = c in
+    let t = n in
+    let f = t in
+    rw (f.if-t-discontinuity.true, t.this_blep_sample.ensures, n.next_blep_sample.ensures, f.small.ensures)
+
+pub returns-else-t-discontinuity : goal.returns-else-t-discontinuity
+unfolding edge_of
+returns-else-t-discontinuity c = rw c.if-t-discontinuity.false

@@ -1,0 +1,12 @@
+-- `nes_triangle::step::jump` meets its contract: a gain of 0 leaves no discontinuity. Assumes nothing.
+use Rattle.std.proofs.Common.{T, sym, subst, rules}
+use Rattle.nes_triangle.proofs.Silent.{silent}
+use Rattle.nes_triangle.proofs.step.jump.Goals as goal
+
+pub returns-then-g : goal.returns-then-g
+returns-then-g c = rw (c.edge.ensures, c.step_sign.ensures)
+
+pub returns-else-g : goal.returns-else-g
+returns-else-g c =
+    let a = c in
+    silent a.args.d.num_steps a.args.d.half _ _ _ _ _ (subst T (sym a.well_formed.1.0.1.1.0.1) tt) c.if-g.false

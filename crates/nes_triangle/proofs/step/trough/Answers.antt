@@ -1,0 +1,15 @@
+-- `nes_triangle::step::trough` meets its contract: each way of the test is the definition's. Assumes nothing.
+use Rattle.nes_triangle.specs.Sample.{trough_of}
+use Rattle.std.proofs.Common.{rules}
+use Rattle.nes_triangle.proofs.step.trough.Goals as goal
+
+pub returns-then-here-discontinuity : goal.returns-then-here-discontinuity
+unfolding trough_of
+returns-then-here-discontinuity c =
+    let n = c in
+    let t = n in
+    rw (t.if-here-discontinuity.true, t.this_integrated_blep_sample.ensures, n.next_integrated_blep_sample.ensures)
+
+pub returns-else-here-discontinuity : goal.returns-else-here-discontinuity
+unfolding trough_of
+returns-else-here-discontinuity c = rw c.if-here-discontinuity.false

@@ -1,0 +1,71 @@
+-- `string_synth::play` meets its contract: the loop's law is `block`'s, for any oscillator, and the starts that it keeps are those of the state's segment. Assumes nothing.
+use Rattle.std.proofs.Common.{◌≡◌, ◌-◌, length, nat_abs, sym, ◌∙◌, arith, lit<, rules}
+use Rattle.block.proofs.Turns.{Turning, turning_start, turning_place, turning_more, turning_quiet, turning_end}
+use Rattle.string_synth.specs.Sample.{sample_at}
+use Rattle.string_synth.specs.Block.{rooms}
+use Rattle.string_synth.specs.Private.{Valid}
+use Rattle.string_synth.proofs.Keeping.{keeps}
+use Rattle.string_synth.proofs.Segments.{reached_small}
+use Rattle.string_synth.proofs.Stays.{starts_of, held_segment, cast_segment, quiet_made, quiet_starts, sampled_segment}
+use Rattle.string_synth.proofs.play.Goals as goal
+
+pub overflow_cast-s : goal.overflow_cast-s
+overflow_cast-s c = let v = c.requires.fit.valid in cast_segment v.segment (omega (arith, v.below))
+
+pub loop-i-init : goal.loop-i-init
+loop-i-init c =
+    let b = c in
+    let v = b.requires.fit.valid in
+    (turning_start (omega (arith, b.well_formed.1.0.1.0.1)) c.none-counts.ensures b.requires, c.starts_of-starts.ensures ∙ rw (held_segment v.segment (omega (arith, v.below))))
+
+pub sample-q-requires : goal.sample-q-requires
+sample-q-requires c =
+    let q = c in
+    let inv = q.loop-i.invariant in
+    (inv.0.ok, (inv.1, sym q.is_quiet.ensures ∙ c.if-is_quiet.true))
+
+pub loop-i-preserved-then-is_quiet : goal.loop-i-preserved-then-is_quiet
+loop-i-preserved-then-is_quiet c =
+    let t = c in
+    let a = t in
+    let l = a in
+    let inv = l.loop-i.invariant in
+    let place = turning_place inv.0 l.loop-i-test.true a.advance-moving.ensures in
+    let q = sym t.is_quiet.ensures ∙ c.if-is_quiet.true in (
+      turning_quiet inv.0 l.loop-i-test.true a.advance-moving.ensures keeps
+          (quiet_made _ _ _ inv.0.ok inv.1 q _ c.sample-q.ensures
+          ∙ rw (c.sample-q.ensures, place 0 (lit< tt), place 1 (lit< tt), place 2 (lit< tt), place 3 (lit< tt), place 4 (lit< tt))),
+      quiet_starts _ _ _ inv.0.ok inv.1 q _ c.sample-q.ensures,
+    )
+
+pub overflow_cast-s-else-is_quiet : goal.overflow_cast-s-else-is_quiet
+overflow_cast-s-else-is_quiet c = cast_segment (sampled_segment _ _ _ c.sample-t.ensures) (reached_small _ _)
+
+pub overflow_add-i-else-is_quiet : goal.overflow_add-i-else-is_quiet
+overflow_add-i-else-is_quiet c =
+    let l = c in
+    let inv = l.loop-i.invariant.0 in
+    record { fits = omega (arith, l.loop-i-test.true, inv.long, inv.short) }
+
+pub loop-i-smaller : goal.loop-i-smaller
+loop-i-smaller c =
+    let l = c in
+    omega (arith, l.loop-i-test.true, l.loop-i.invariant.0.long)
+
+pub loop-i-preserved : goal.loop-i-preserved
+loop-i-preserved c =
+    let u = c in
+    let a = u in
+    let l = a in
+    let inv = l.loop-i.invariant.0 in
+    let place = turning_place inv l.loop-i-test.true a.advance-moving.ensures in (
+      turning_more inv l.loop-i-test.true a.advance-moving.ensures keeps c.sum-counts.ensures
+          (rw (u.sample-t.ensures, place 0 (lit< tt), place 1 (lit< tt), place 2 (lit< tt), place 3 (lit< tt), place 4 (lit< tt))),
+      c.starts_of-starts-else-is_quiet.ensures ∙ rw (held_segment (sampled_segment _ _ _ u.sample-t.ensures) (reached_small _ _)),
+    )
+
+pub shape_of-out : goal.shape_of-out
+shape_of-out c = c.loop-i.invariant.0.long
+
+pub returns : goal.returns
+returns c = turning_end c.loop-i.invariant.0 c.loop-i-test.false

@@ -1,0 +1,69 @@
+-- `string_synth::render` meets its contract: each way out is the definition's. Assumes nothing.
+use Rattle.std.proofs.Common.{not, [], sym, refl, ap, ◌∙◌, rules, eq-eqb, ne_eqb, le-leb}
+use borrow.Author.Tests.{not-true, not-false, lt-leb}
+use Rattle.block.specs.Checks.{here, later}
+use Rattle.floats.proofs.Bools.{holds}
+use Rattle.block.proofs.Runs.{guarded}
+use Rattle.block.proofs.Ways.{refused_by, run_from}
+use Rattle.string_synth.specs.Block.{string_synth}
+use Rattle.string_synth.specs.Private.{courses}
+use Rattle.string_synth.proofs.Calls.{valid_of}
+use Rattle.string_synth.proofs.Courses.{presumed}
+use Rattle.string_synth.proofs.render.Goals as goal
+
+pub returns-then-out-gt4096 : goal.returns-then-out-gt4096
+returns-then-out-gt4096 c = rw c.refuse.ensures (sym (refused_by string_synth _ _ (here (lt-leb _ _ c.if-out-gt4096.true))))
+
+pub returns-then-registration-ne7 : goal.returns-then-registration-ne7
+returns-then-registration-ne7 c = rw c.refuse-then-registration-ne7.ensures (sym (refused_by string_synth _ _ (later (le-leb _ _ c.if-out-gt4096.false) (here (ne_eqb _ _ c.if-registration-ne7.true)))))
+
+pub returns-then-not-state_in : goal.returns-then-not-state_in
+returns-then-not-state_in c =
+    let t = c in
+    rw c.refuse-then-not-state_in.ensures
+    (sym (refused_by string_synth _ _ (later (le-leb _ _ t.if-out-gt4096.false) (later (eq-eqb _ _ t.if-registration-ne7.false) (here (sym t.state_in.ensures ∙ not-true _ c.if-not-state_in.true-raw))))))
+
+pub returns-then-not-parameters_in : goal.returns-then-not-parameters_in
+returns-then-not-parameters_in c =
+    let p = c in
+    let t = p in
+    rw c.refuse-then-not-parameters_in.ensures
+    (sym (refused_by string_synth _ _ (later (le-leb _ _ t.if-out-gt4096.false) (later (eq-eqb _ _ t.if-registration-ne7.false) (later (sym t.state_in.ensures ∙ not-false _ p.if-not-state_in.false-raw) (here (sym p.parameters_in.ensures ∙ not-true _ c.if-not-parameters_in.true-raw)))))))
+
+pub returns-then-frequency : goal.returns-then-frequency
+returns-then-frequency c =
+    let e = c in
+    let p = e in
+    let t = p in
+    rw c.refuse-then-frequency.ensures
+    (sym (refused_by string_synth _ _ (later (le-leb _ _ t.if-out-gt4096.false) (later (eq-eqb _ _ t.if-registration-ne7.false) (later (sym t.state_in.ensures ∙ not-false _ p.if-not-state_in.false-raw) (later (sym p.parameters_in.ensures ∙ not-false _ e.if-not-parameters_in.false-raw) (here (ap not c.if-frequency.true))))))))
+
+pub drift_or_play-requires : goal.drift_or_play-requires
+drift_or_play-requires c =
+    let m = c in
+    let to = m in
+    let h = to in
+    let e = h in
+    let p = e in
+    let t = p in
+    let l = t in
+    let k = l in
+    let g = k.well_formed in
+    let s = g.0.1.1 in
+    let v = valid_of _ (holds s.0.1, tt) (sym t.state_in.ensures ∙ not-false _ p.if-not-state_in.false-raw) in
+    guarded (record { short = l.if-out-gt4096.false; valid = v }) (courses k.args.state to.targets-to.result)
+    (presumed _ _ _ (holds g.1.0.1) k.shared_slice_known-1.given (holds g.1.1.1.0.1) t.if-registration-ne7.false (sym p.parameters_in.ensures ∙ not-false _ e.if-not-parameters_in.false-raw) h.if-frequency.false _ _
+    (holds s.1.1.1.0.1, (holds s.1.1.1.1.0.1, (holds s.1.1.1.1.1.0.1, (holds s.1.1.1.1.1.1.0.1, (holds s.1.1.1.1.1.1.1.0.1, tt))))) v to.targets-to.ensures)
+    refl _ m.glides.ensures
+
+pub returns : goal.returns
+returns c =
+    let d = c in
+    let m = d in
+    let to = m in
+    let h = to in
+    let e = h in
+    let p = e in
+    let t = p in
+    run_from string_synth _ _ refl (le-leb _ _ t.if-out-gt4096.false, (eq-eqb _ _ t.if-registration-ne7.false, (sym t.state_in.ensures ∙ not-false _ p.if-not-state_in.false-raw, (sym p.parameters_in.ensures ∙ not-false _ e.if-not-parameters_in.false-raw, (ap not h.if-frequency.false, tt)))))
+    [] (rw (m.glides.ensures, to.targets-to.ensures)) d.drift_or_play.ensures

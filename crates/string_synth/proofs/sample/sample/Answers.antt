@@ -1,0 +1,12 @@
+-- `string_synth::sample::sample` meets its contract. Assumes nothing.
+use Rattle.std.proofs.Common.{refl, rules}
+use Rattle.string_synth.proofs.Segments.{reached_small}
+use Rattle.string_synth.specs.Sample.{sample_of}
+use Rattle.string_synth.proofs.sample.sample.Goals as goal
+
+pub finish-requires : goal.finish-requires
+finish-requires c = (rw c.reach-e.ensures (reached_small _ _), c.starts_of.ensures)
+
+pub returns : goal.returns
+unfolding sample_of
+returns c = rw (c.finish.ensures, c.reach-e.ensures) refl

@@ -1,0 +1,59 @@
+-- `super_square::play` meets its contract: the loop's law is `block`'s, for any oscillator. Assumes nothing.
+use mathlib.Core.Path.{sym, ◌∙◌}
+use Prim.Native.Nat.{◌-◌}
+use native.Mathlib.Omega.{arith}
+use lib.Dec.{lit<}
+use lib.ListN.{length}
+use borrow.Author.Rules.{rules}
+use Rattle.block.proofs.Turns.{Turning, turning_start, turning_place, turning_inside, turning_more, turning_quiet, turning_end}
+use Rattle.super_square.specs.Sample.{sample_at}
+use Rattle.super_square.specs.Block.{rooms}
+use Rattle.super_square.specs.Private.{Valid}
+use Rattle.super_square.proofs.Samples.{quiet_made}
+use Rattle.super_square.proofs.Keeping.{law_of, keeps}
+use Rattle.super_square.proofs.play.Goals as goal
+
+pub loop-i-init : goal.loop-i-init
+loop-i-init c = turning_start (omega (arith, c.well_formed.1.0.1.0.1)) c.none-counts.ensures c.requires
+
+pub sample-q-requires : goal.sample-q-requires
+sample-q-requires c = sym c.is_quiet.ensures ∙ c.if-is_quiet.true
+
+pub loop-i-preserved-then-is_quiet : goal.loop-i-preserved-then-is_quiet
+loop-i-preserved-then-is_quiet c =
+    let t = c in
+    let a = t in
+    let l = a in
+    let inv = l.loop-i.invariant in
+    let place = turning_place inv l.loop-i-test.true a.advance-moving.ensures in
+    let q = sym t.is_quiet.ensures ∙ c.if-is_quiet.true in
+    turning_quiet inv l.loop-i-test.true a.advance-moving.ensures keeps
+    (quiet_made _ _ _ q c.sample-q.ensures ∙ rw (c.sample-q.ensures, place 0 (lit< tt), place 1 (lit< tt)))
+
+pub sample-t-requires : goal.sample-t-requires
+sample-t-requires c =
+    let a = c in
+    let l = a in
+    let inv = l.loop-i.invariant in
+    let place = turning_place inv l.loop-i-test.true a.advance-moving.ensures in
+    rw (place 0 (lit< tt), place 1 (lit< tt)) (law_of _ _ inv.ok (turning_inside inv l.loop-i-test.true a.advance-moving.ensures)).0
+
+pub loop-i-preserved : goal.loop-i-preserved
+loop-i-preserved c =
+    let a = c in
+    let l = a in
+    let inv = l.loop-i.invariant in
+    let place = turning_place inv l.loop-i-test.true a.advance-moving.ensures in
+    turning_more inv l.loop-i-test.true a.advance-moving.ensures keeps c.sum-counts.ensures (rw (c.sample-t.ensures, place 0 (lit< tt), place 1 (lit< tt)))
+
+pub loop-i-smaller-then-is_quiet : goal.loop-i-smaller-then-is_quiet
+loop-i-smaller-then-is_quiet c = omega (arith, c.loop-i.invariant.long)
+
+pub loop-i-smaller : goal.loop-i-smaller
+loop-i-smaller c = omega (arith, c.loop-i.invariant.long)
+
+pub shape_of-out : goal.shape_of-out
+shape_of-out c = c.loop-i.invariant.long
+
+pub returns : goal.returns
+returns c = turning_end c.loop-i.invariant c.loop-i-test.false

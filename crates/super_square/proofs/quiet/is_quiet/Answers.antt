@@ -1,0 +1,6 @@
+-- `super_square::quiet::is_quiet` meets its contract. Assumes nothing.
+use borrow.Author.Rules.{rules}
+use Rattle.super_square.proofs.quiet.is_quiet.Goals as goal
+
+pub returns : goal.returns
+returns c = rw c.is_uncrossed.ensures

@@ -1,0 +1,14 @@
+-- `super_square::quiet::sample` meets its contract: under its test it is what the definition gives. Assumes nothing.
+use mathlib.Core.Path.{sym}
+use Rattle.super_square.specs.Sample.{finish}
+use Rattle.super_square.proofs.Samples.{sample_quiet}
+use borrow.Author.Rules.{rules}
+use Rattle.super_square.proofs.quiet.sample.Goals as goal
+
+pub returns : goal.returns
+unfolding finish
+returns c =
+    let n = c in
+    let s = n in
+    let p = s.args in
+    rw (n.level.ensures, c.none.ensures) (sym (sample_quiet p.s p.master_frequency p.slave_frequency s.requires))

@@ -1,0 +1,52 @@
+-- `super_square::render` meets its contract: each way out is the definition's. Assumes nothing.
+use mathlib.Core.Path.{refl, ap, ◌∙◌, sym}
+use borrow.Author.Tests.{not-true, not-false, le-leb, lt-leb}
+use Rattle.block.specs.Checks.{here, later}
+use Rattle.floats.proofs.Bools.{holds}
+use Rattle.rooms.specs.declared.Glides.{Glides}
+use Rattle.block.proofs.Runs.{guarded}
+use Rattle.block.proofs.Ways.{refused_by, run_from}
+use Rattle.super_square.specs.Block.{super_square}
+use Rattle.super_square.specs.Private.{courses}
+use Rattle.super_square.proofs.Calls.{valid_of}
+use Rattle.super_square.proofs.Courses.{presumed}
+use borrow.Author.Rules.{rules}
+use Rattle.super_square.proofs.render.Goals as goal
+
+pub returns-then-out-gt4096 : goal.returns-then-out-gt4096
+returns-then-out-gt4096 c = rw c.refuse.ensures (sym (refused_by super_square _ _ (here (lt-leb _ _ c.if-out-gt4096.true))))
+
+pub returns-then-not-state_in : goal.returns-then-not-state_in
+returns-then-not-state_in c =
+    let t = c in
+    rw c.refuse-then-not-state_in.ensures (sym (refused_by super_square _ _ (later (le-leb _ _ t.if-out-gt4096.false) (here (sym t.state_in.ensures ∙ not-true _ c.if-not-state_in.true-raw)))))
+
+pub returns-then-not-parameters_in : goal.returns-then-not-parameters_in
+returns-then-not-parameters_in c =
+    let p = c in
+    let t = p in
+    rw c.refuse-then-not-parameters_in.ensures
+    (sym (refused_by super_square _ _ (later (le-leb _ _ t.if-out-gt4096.false) (later (sym t.state_in.ensures ∙ not-false _ p.if-not-state_in.false-raw) (here (sym p.parameters_in.ensures ∙ not-true _ c.if-not-parameters_in.true-raw))))))
+
+pub drift_or_play-requires : goal.drift_or_play-requires
+drift_or_play-requires c =
+    let e = c in
+    let p = e in
+    let t = p in
+    let a = t.args in
+    let g = t.well_formed in
+    let s = g.0.1.1 in
+    let v = valid_of _ (holds s.0.1, (holds s.1.0.1, tt)) (sym t.state_in.ensures ∙ not-false _ p.if-not-state_in.false-raw) in
+    let parameters = sym p.parameters_in.ensures ∙ not-false _ e.if-not-parameters_in.false-raw in
+    guarded (record { short = t.if-out-gt4096.false; valid = v }) (courses a.state a.frequency a.shape)
+    (presumed _ _ _ (holds s.1.1.1.1.0.1) (holds s.1.1.1.1.1.0.1) (holds g.1.0.1) (holds g.1.1.0.1) v parameters) refl _ c.glides.ensures
+
+pub returns : goal.returns
+returns c =
+    let d = c in
+    let n = d in
+    let e = n in
+    let p = e in
+    let t = p in
+    run_from super_square _ _ refl (le-leb _ _ t.if-out-gt4096.false, (sym t.state_in.ensures ∙ not-false _ p.if-not-state_in.false-raw, (sym p.parameters_in.ensures ∙ not-false _ e.if-not-parameters_in.false-raw, tt)))
+    _ (ap (λ (g : Glides). g.interpolators) n.glides.ensures) d.drift_or_play.ensures

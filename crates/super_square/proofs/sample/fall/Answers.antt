@@ -1,0 +1,9 @@
+-- `super_square::sample::fall` meets its contract. Assumes nothing.
+use mathlib.Core.Path.{refl}
+use Rattle.super_square.specs.Sample.{fall_of}
+use borrow.Author.Rules.{rules}
+use Rattle.super_square.proofs.sample.fall.Goals as goal
+
+pub returns : goal.returns
+unfolding fall_of
+returns c = let n = c in rw (c.fallen.ensures, n.this_blep_sample.ensures, n.next_blep_sample.ensures) refl

@@ -1,0 +1,14 @@
+-- `super_square::sample::reset_start` meets its contract. Assumes nothing.
+use mathlib.Core.Path.{refl}
+use Rattle.super_square.specs.Private.{reset_start}
+use borrow.Author.Rules.{rules}
+use Rattle.super_square.proofs.sample.reset_start.Goals as goal
+
+pub returns : goal.returns
+unfolding reset_start
+returns c =
+    let n = c in
+    let e = n in
+    let f = e in
+    let p = f.args in
+    rw (c.cut.ensures, n.level.ensures, e.edge.ensures, f.at_reset-found.ensures) (refl {a = reset_start p.s p.master_frequency p.slave_frequency p.master_phase})

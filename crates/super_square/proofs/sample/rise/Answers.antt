@@ -1,0 +1,9 @@
+-- `super_square::sample::rise` meets its contract. Assumes nothing.
+use mathlib.Core.Path.{refl}
+use Rattle.super_square.specs.Sample.{rise_of}
+use borrow.Author.Rules.{rules}
+use Rattle.super_square.proofs.sample.rise.Goals as goal
+
+pub returns : goal.returns
+unfolding rise_of
+returns c = let n = c in rw (c.risen.ensures, n.this_blep_sample.ensures, n.next_blep_sample.ensures) refl

@@ -1,0 +1,13 @@
+-- `super_square::sample::sample` meets its contract: its parts make the definition. Assumes nothing.
+use Rattle.super_square.proofs.Samples.{sample_is, start_crossable}
+use borrow.Author.Rules.{rules}
+use Rattle.super_square.proofs.sample.sample.Goals as goal
+
+pub cross_if-e-requires : goal.cross_if-e-requires
+cross_if-e-requires c = start_crossable _ _ _ _ c.begin-start.ensures c.requires
+
+pub returns : goal.returns
+returns c =
+    let e = c in
+    let b = e in
+    sample_is _ _ _ _ _ _ _ _ b.begin-start.ensures e.cross_if-e.ensures c.leave-end.ensures c.after-t.ensures c.finish.ensures

@@ -1,0 +1,13 @@
+-- `variable_saw::quiet::sample` meets its contract: under its test it is what the definition gives. Assumes nothing.
+use mathlib.Core.Path.{sym}
+use Rattle.variable_saw.specs.Sample.{finish}
+use Rattle.variable_saw.proofs.Samples.{sample_quiet}
+use borrow.Author.Rules.{rules}
+use Rattle.variable_saw.proofs.quiet.sample.Goals as goal
+
+pub returns : goal.returns
+unfolding finish
+returns c =
+    let n = c in
+    let p = n.args in
+    rw (n.naive_sample.ensures, c.put_out.ensures, c.none.ensures) (sym (sample_quiet p.s p.frequency p.pw p.waveshape n.requires))

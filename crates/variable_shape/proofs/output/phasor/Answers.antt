@@ -1,0 +1,6 @@
+-- `variable_shape::output::phasor` meets its contract. Assumes nothing.
+use borrow.Author.Rules.{rules}
+use Rattle.variable_shape.proofs.output.phasor.Goals as goal
+
+pub returns : goal.returns
+returns c = rw c.abs.ensures

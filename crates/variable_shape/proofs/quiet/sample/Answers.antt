@@ -1,0 +1,15 @@
+-- `variable_shape::quiet::sample` meets its contract: under its test it is what the definition gives. Assumes nothing.
+use mathlib.Core.Path.{sym}
+use Rattle.variable_shape.specs.Sample.{finish}
+use Rattle.variable_shape.proofs.Samples.{sample_quiet}
+use borrow.Author.Rules.{rules}
+use Rattle.variable_shape.proofs.quiet.sample.Goals as goal
+
+pub returns : goal.returns
+unfolding finish
+returns c =
+    let n = c in
+    let o = n in
+    let m = o in
+    let p = m.args in
+    rw (n.naive_at.ensures p.s.previous_pw, o.output.ensures, m.master_step-master_phase.ensures, c.none.ensures) (sym (sample_quiet p.sync p.phase_output p.s p.steps m.requires))

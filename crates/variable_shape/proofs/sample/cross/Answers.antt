@@ -1,0 +1,31 @@
+-- `variable_shape::sample::cross` meets its contract: the loop's laws are `edges`'. Assumes nothing.
+use mathlib.Core.Path.{◌∙◌}
+use borrow.Author.Rules.{rules}
+use Rattle.edges.proofs.CrossingLoop.{again, Going, going_start, Risen, stays_high, rises_low, ends_low, ends_high, again_less, going_on}
+use Rattle.variable_shape.proofs.Edges.{crosses}
+use Rattle.variable_shape.proofs.sample.cross.Goals as goal
+use Rattle.variable_shape.proofs.sample.cross.Goals.{then-not-e+else-e-w, else-not-e}
+
+pub crossing-init : goal.crossing-init
+crossing-init c = going_start c.requires
+
+pub crossing-smaller : goal.crossing-smaller
+crossing-smaller c =
+    -- where the two sides of the first test meet
+    let risen : Risen (crosses c.args.w) c.crossing.e c.if-not-e.e = elim c.if-not-e.branch [ then-not-e+else-e-w w ↦ rises_low w.if-not-e.true w.if-e-w.false (w.e-is ∙ w.rise-e.ensures) | else-not-e w ↦ stays_high w.if-not-e.false w.e-is ] in
+    again_less c.crossing.invariant risen c.if-e.false c.fall-e.ensures
+
+pub crossing-preserved : goal.crossing-preserved
+crossing-preserved c =
+    -- where the two sides of the first test meet
+    let risen : Risen (crosses c.args.w) c.crossing.e c.if-not-e.e = elim c.if-not-e.branch [ then-not-e+else-e-w w ↦ rises_low w.if-not-e.true w.if-e-w.false (w.e-is ∙ w.rise-e.ensures) | else-not-e w ↦ stays_high w.if-not-e.false w.e-is ] in
+    going_on c.crossing.invariant risen c.if-e.false c.fall-e.ensures
+
+pub returns-then-e-w : goal.returns-then-e-w
+returns-then-e-w c = ends_low c.crossing.invariant c.if-not-e.true c.if-e-w.true
+
+pub returns-then-e : goal.returns-then-e
+returns-then-e c =
+    -- where the two sides of the first test meet
+    let risen : Risen (crosses c.args.w) c.crossing.e c.if-not-e.e = elim c.if-not-e.branch [ then-not-e+else-e-w w ↦ rises_low w.if-not-e.true w.if-e-w.false (w.e-is ∙ w.rise-e.ensures) | else-not-e w ↦ stays_high w.if-not-e.false w.e-is ] in
+    ends_high c.crossing.invariant risen c.if-e.true

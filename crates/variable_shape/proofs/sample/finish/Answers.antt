@@ -1,0 +1,9 @@
+-- `variable_shape::sample::finish` meets its contract. Assumes nothing.
+use mathlib.Core.Path.{refl}
+use Rattle.variable_shape.specs.Sample.{finish}
+use borrow.Author.Rules.{rules}
+use Rattle.variable_shape.proofs.sample.finish.Goals as goal
+
+pub returns : goal.returns
+unfolding finish
+returns c = rw (c.output.ensures, c.counts.ensures) refl

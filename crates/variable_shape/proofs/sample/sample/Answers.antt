@@ -1,0 +1,13 @@
+-- `variable_shape::sample::sample` meets its contract: its parts make the definition. Assumes nothing.
+use Rattle.variable_shape.proofs.Samples.{sample_is, start_crossable}
+use borrow.Author.Rules.{rules}
+use Rattle.variable_shape.proofs.sample.sample.Goals as goal
+
+pub cross_if-e-requires : goal.cross_if-e-requires
+cross_if-e-requires c = start_crossable _ _ _ _ _ _ c.at-w.ensures c.begin-start.ensures c.requires
+
+pub returns : goal.returns
+returns c =
+    let e = c in
+    let b = e in
+    sample_is _ _ _ _ _ _ _ _ _ _ b.at-w.ensures b.begin-start.ensures e.cross_if-e.ensures c.leave-end.ensures c.after-t.ensures c.finish.ensures

@@ -1,0 +1,6 @@
+-- `variable_shape::steps::at` meets its contract. Assumes nothing.
+use borrow.Author.Rules.{rules}
+use Rattle.variable_shape.proofs.steps.at.Goals as goal
+
+pub returns : goal.returns
+returns c = rw c.modulation.ensures

@@ -1,0 +1,11 @@
+-- `variable_shape::waveform::naive_at` meets its contract. Assumes nothing.
+use Rattle.variable_shape.specs.Waveform.{waveform_of, naive_of}
+use mathlib.Core.Path.{refl}
+use borrow.Author.Rules.{rules}
+use Rattle.variable_shape.proofs.waveform.naive_at.Goals as goal
+
+pub returns : goal.returns
+unfolding waveform_of naive_of
+returns c previousPw =
+    let q = c in
+    rw (q.max-square_amount.ensures, q.max-triangle_amount.ensures, q.square.ensures, c.triangle_at.ensures) refl

@@ -1,0 +1,10 @@
+-- `words::result_of` meets its contract: three of its words are what `block` tells. Assumes nothing.
+use Rattle.words.proofs.Faces.{result_is}
+use borrow.Author.Rules.{rules}
+use Rattle.words.proofs.result_of.Goals as goal
+
+pub returns : goal.returns
+returns c =
+    let told = c in
+    let a = told.args in
+    result_is a.answer a.counts c.number.ensures c.index.ensures told.late-late.ensures

@@ -1,0 +1,6 @@
+-- `words::stores` meets its contract. Assumes nothing.
+use borrow.Author.Rules.{rules}
+use Rattle.words.proofs.stores.Goals as goal
+
+pub returns : goal.returns
+returns c = rw c.number.ensures
