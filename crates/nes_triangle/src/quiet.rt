@@ -41,8 +41,8 @@ pub(crate) fn is_quiet(d: Depth, s: State, h: Held, frequency: f32) -> bool
 // The sample, under that test: the phase moves on, and both triangles are read there. Nothing is counted.
 pub(crate) fn sample(d: Depth, s: State, h: Held, frequency: f32) -> Sampled
     requires ready { Ready d s frequency }
-    requires at_value { (h.at ≡ whole32 (unsigned_abs s.step)) × (h.level ≡ whole32 (nes_level (unsigned_abs s.step) d.half d.top)) }
-    requires frequency_value { (le h.at ((s.phase ⊕ frequency) ⊗ d.num_steps_f) && lt ((s.phase ⊕ frequency) ⊗ d.num_steps_f) (h.at ⊕ one32) && not (s.ascending && le half32 (s.phase ⊕ frequency))) ≡ true }
+    requires held_of_step { (h.at ≡ whole32 (unsigned_abs s.step)) × (h.level ≡ whole32 (nes_level (unsigned_abs s.step) d.half d.top)) }
+    requires step_stays { (le h.at ((s.phase ⊕ frequency) ⊗ d.num_steps_f) && lt ((s.phase ⊕ frequency) ⊗ d.num_steps_f) (h.at ⊕ one32) && not (s.ascending && le half32 (s.phase ⊕ frequency))) ≡ true }
     ensures { result ≡ sample_of d s frequency }
 {
     let phase = s.phase + frequency;

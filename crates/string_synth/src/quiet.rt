@@ -20,8 +20,8 @@ pub(crate) fn is_quiet(s: State, starts: Starts, frequency: f32) -> bool
 // The sample, under that test.
 pub(crate) fn sample(s: State, starts: Starts, saws: Saws, held: f32) -> Sampled
     requires valid { Valid s }
-    requires starts_value { starts ≡ record { saw_4 = whole32 (bit_and (unsigned_abs s.segment) 4); saw_2 = whole32 (bit_and (unsigned_abs s.segment) 6); saw_1 = whole32 (bit_and (unsigned_abs s.segment) 7) } }
-    requires one32_value { (le starts.saw_1 (s.phase ⊕ saws.frequency) && lt (s.phase ⊕ saws.frequency) (starts.saw_1 ⊕ one32)) ≡ true }
+    requires starts_of_segment { starts ≡ record { saw_4 = whole32 (bit_and (unsigned_abs s.segment) 4); saw_2 = whole32 (bit_and (unsigned_abs s.segment) 6); saw_1 = whole32 (bit_and (unsigned_abs s.segment) 7) } }
+    requires segment_stays { (le starts.saw_1 (s.phase ⊕ saws.frequency) && lt (s.phase ⊕ saws.frequency) (starts.saw_1 ⊕ one32)) ≡ true }
     ensures { result ≡ sample_of s saws held }
 {
     let e = sample::stay(s, s.phase + saws.frequency, s.segment as u32);

@@ -183,8 +183,8 @@ fn next_sample(e: Reached, starts: Starts, saws: Saws) -> f32
 
 // The end of a sample, lines 139 to 150. It is added to what the mix buffer held.
 pub(crate) fn finish(e: Reached, starts: Starts, saws: Saws, held: f32) -> Sampled
-    requires segment_bound { e.segment ≤ 131072 }
-    requires starts_value { starts ≡ record { saw_4 = whole32 (bit_and e.segment 4); saw_2 = whole32 (bit_and e.segment 6); saw_1 = whole32 (bit_and e.segment 7) } }
+    requires segment_in_range { e.segment ≤ 131072 }
+    requires starts_of_segment { starts ≡ record { saw_4 = whole32 (bit_and e.segment 4); saw_2 = whole32 (bit_and e.segment 6); saw_1 = whole32 (bit_and e.segment 7) } }
     ensures { result ≡ finished e saws held }
 {
     Sampled {

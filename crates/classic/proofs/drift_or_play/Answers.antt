@@ -31,27 +31,17 @@ found_in shape n g {room} {found} e h = go (steps_width shape) (rw e at h)
 
 pub play-requires : goal.play-requires
 play-requires c =
-    let t = c in
-    let w = t in
-    let m = w in
-    let a = m.args in
-    finds_playable (rooms a.shape) (left a.shape) _ _ _ (found_in a.shape _ a.glides m.width_room.ensures w.find_drift.ensures) m.requires t.in-Nowhere.is
+    let a = c.args in
+    finds_playable (rooms a.shape) (left a.shape) _ _ _ (found_in a.shape _ a.glides c.width_room.ensures c.find_drift.ensures) c.requires c.in-Nowhere.is
 
 pub returns-in-Outside : goal.returns-in-Outside
 returns-in-Outside c =
-    let t = c in
-    let w = t in
-    let m = w in
-    let a = m.args in
+    let a = c.args in
     rw c.refuse.ensures
-    (finds_drift (rooms a.shape) (left a.shape) _ _ _ (found_in a.shape _ a.glides m.width_room.ensures w.find_drift.ensures) m.requires _ t.in-Outside.is)
+    (finds_drift (rooms a.shape) (left a.shape) _ _ _ (found_in a.shape _ a.glides c.width_room.ensures c.find_drift.ensures) c.requires _ c.in-Outside.is)
 
 pub returns-in-Nowhere : goal.returns-in-Nowhere
 returns-in-Nowhere c =
-    let p = c in
-    let t = p in
-    let w = t in
-    let m = w in
-    let a = m.args in
-    p.play.ensures
-    ∙ finds_none (rooms a.shape) (left a.shape) _ _ _ (found_in a.shape _ a.glides m.width_room.ensures w.find_drift.ensures) m.requires _ t.in-Nowhere.is
+    let a = c.args in
+    c.play.ensures
+    ∙ finds_none (rooms a.shape) (left a.shape) _ _ _ (found_in a.shape _ a.glides c.width_room.ensures c.find_drift.ensures) c.requires _ c.in-Nowhere.is

@@ -14,33 +14,29 @@ use Rattle.classic.proofs.play.Goals as goal
 
 pub loop-i-init : goal.loop-i-init
 loop-i-init c =
-    let e = c in
-    turning_start (enough e.args.shape e.well_formed.1.0.1.0.1) c.none-counts.ensures e.requires
+    turning_start (enough c.args.shape c.well_formed.1.0.1.0.1) c.none-counts.ensures c.requires
 
 pub sample-q-requires : goal.sample-q-requires
 sample-q-requires c = sym c.is_quiet.ensures ∙ c.if-is_quiet.true
 
 pub loop-i-preserved-then-is_quiet : goal.loop-i-preserved-then-is_quiet
 loop-i-preserved-then-is_quiet c =
-    let u = c in
-    let k = u in
+    let k = c in
     let a = k in
     let t = a in
     let inv = t.loop-i.invariant in
     let shape = t.args.shape in
-    let q = sym k.is_quiet.ensures ∙ u.if-is_quiet.true in
+    let q = sym k.is_quiet.ensures ∙ c.if-is_quiet.true in
     turning_quiet inv t.loop-i-test.true a.advance-moving.ensures (keeps shape)
-    (quiet_made _ _ _ _ q u.sample-q.ensures
-    ∙ rw (u.sample-q.ensures, read shape t.loop-i.s-1 (values (used (rooms shape) a.advance-moving.result)) (λ k. (place a.advance-moving.result k).value) (turning_place inv t.loop-i-test.true a.advance-moving.ensures)))
+    (quiet_made _ _ _ _ q c.sample-q.ensures
+    ∙ rw (c.sample-q.ensures, read shape t.loop-i.s (values (used (rooms shape) a.advance-moving.result)) (λ k. (place a.advance-moving.result k).value) (turning_place inv t.loop-i-test.true a.advance-moving.ensures)))
 
 pub loop-i-preserved : goal.loop-i-preserved
 loop-i-preserved c =
-    let a = c in
-    let t = a in
-    let inv = t.loop-i.invariant in
-    let shape = t.args.shape in
-    turning_more inv t.loop-i-test.true a.advance-moving.ensures (keeps shape) c.sum-counts.ensures
-    (rw (c.sample-t.ensures, read shape t.loop-i.s-1 (values (used (rooms shape) a.advance-moving.result)) (λ k. (place a.advance-moving.result k).value) (turning_place inv t.loop-i-test.true a.advance-moving.ensures)))
+    let inv = c.loop-i.invariant in
+    let shape = c.args.shape in
+    turning_more inv c.loop-i-test.true c.advance-moving.ensures (keeps shape) c.sum-counts.ensures
+    (rw (c.sample-t.ensures, read shape c.loop-i.s (values (used (rooms shape) c.advance-moving.result)) (λ k. (place c.advance-moving.result k).value) (turning_place inv c.loop-i-test.true c.advance-moving.ensures)))
 
 pub loop-i-smaller-then-is_quiet : goal.loop-i-smaller-then-is_quiet
 loop-i-smaller-then-is_quiet c = omega (arith, c.loop-i.invariant.long)

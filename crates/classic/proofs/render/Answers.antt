@@ -17,35 +17,24 @@ returns-then-out-gt4096 c = rw c.refuse.ensures (sym (refused_by classic _ _ (he
 
 pub returns-then-not-state_in : goal.returns-then-not-state_in
 returns-then-not-state_in c =
-    let t = c in
-    rw c.refuse-then-not-state_in.ensures (sym (refused_by classic _ _ (later (le-leb _ _ t.if-out-gt4096.false) (here (sym t.state_in.ensures ∙ not-true _ c.if-not-state_in.true-raw)))))
+    rw c.refuse-then-not-state_in.ensures (sym (refused_by classic _ _ (later (le-leb _ _ c.if-out-gt4096.false) (here (sym c.state_in.ensures ∙ not-true _ c.if-not-state_in.true-raw)))))
 
 pub returns-then-not-parameters_in : goal.returns-then-not-parameters_in
 returns-then-not-parameters_in c =
-    let p = c in
-    let t = p in
     rw c.refuse-then-not-parameters_in.ensures
-    (sym (refused_by classic _ _ (later (le-leb _ _ t.if-out-gt4096.false) (later (sym t.state_in.ensures ∙ not-false _ p.if-not-state_in.false-raw) (here (sym p.parameters_in.ensures ∙ not-true _ c.if-not-parameters_in.true-raw))))))
+    (sym (refused_by classic _ _ (later (le-leb _ _ c.if-out-gt4096.false) (later (sym c.state_in.ensures ∙ not-false _ c.if-not-state_in.false-raw) (here (sym c.parameters_in.ensures ∙ not-true _ c.if-not-parameters_in.true-raw))))))
 
 pub drift_or_play-requires : goal.drift_or_play-requires
 drift_or_play-requires c =
-    let e = c in
-    let p = e in
-    let t = p in
-    let a = t.args in
-    let g = t.well_formed in
+    let a = c.args in
+    let g = c.well_formed in
     let s = g.0.1.1 in
-    let v = valid_of _ (holds s.0.1, tt) (sym t.state_in.ensures ∙ not-false _ p.if-not-state_in.false-raw) in
-    guarded (record { short = t.if-out-gt4096.false; valid = v }) (courses a.state a.frequency a.pw a.shape)
-    (presumed _ _ _ (holds s.1.1.1.1.1.0.1) (holds s.1.1.1.1.1.1.0.1) (holds g.1.0.1) (holds g.1.1.0.1) a.shape v (sym p.parameters_in.ensures ∙ not-false _ e.if-not-parameters_in.false-raw))
+    let v = valid_of _ (holds s.0.1, tt) (sym c.state_in.ensures ∙ not-false _ c.if-not-state_in.false-raw) in
+    guarded (record { short = c.if-out-gt4096.false; valid = v }) (courses a.state a.frequency a.pw a.shape)
+    (presumed _ _ _ (holds s.1.1.1.1.1.0.1) (holds s.1.1.1.1.1.1.0.1) (holds g.1.0.1) (holds g.1.1.0.1) a.shape v (sym c.parameters_in.ensures ∙ not-false _ c.if-not-parameters_in.false-raw))
     (course_rooms a.state a.frequency a.pw a.shape) (others a.shape) c.glides.ensures
 
 pub returns : goal.returns
 returns c =
-    let d = c in
-    let n = d in
-    let e = n in
-    let p = e in
-    let t = p in
-    rendered _ _ (le-leb _ _ t.if-out-gt4096.false, (sym t.state_in.ensures ∙ not-false _ p.if-not-state_in.false-raw, (sym p.parameters_in.ensures ∙ not-false _ e.if-not-parameters_in.false-raw, tt)))
-    (ap (λ (g : Glides). g.interpolators) n.glides.ensures) d.drift_or_play.ensures
+    rendered _ _ (le-leb _ _ c.if-out-gt4096.false, (sym c.state_in.ensures ∙ not-false _ c.if-not-state_in.false-raw, (sym c.parameters_in.ensures ∙ not-false _ c.if-not-parameters_in.false-raw, tt)))
+    (ap (λ (g : Glides). g.interpolators) c.glides.ensures) c.drift_or_play.ensures

@@ -7,6 +7,4 @@ use Rattle.nes_triangle.proofs.glides.Goals as goal
 pub returns : goal.returns
 unfolding all_of
 returns c =
-    let n = c in
-    let s = n in
-    rw (c.still-4.ensures, c.still-3.ensures, c.still-2.ensures, c.still.ensures, n.new.ensures, s.safe-safe.ensures, s.min-target.ensures, and-true)
+    rw (c.still-4.ensures, c.still-3.ensures, c.still-2.ensures, c.still.ensures, c.new.ensures, c.safe-safe.ensures, c.min-target.ensures, and-true)

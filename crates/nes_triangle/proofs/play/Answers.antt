@@ -14,50 +14,31 @@ hold-held-requires c = holdable c.of_bits-d.ensures c.requires.fit.valid
 
 pub loop-i-init : goal.loop-i-init
 loop-i-init c =
-    let h = c in
-    let b = h in
-    (turning_start (omega (arith, b.well_formed.1.1.0.1.0.1)) c.none-counts.ensures b.requires, h.hold-held.ensures)
+    (turning_start (omega (arith, c.well_formed.1.1.0.1.0.1)) c.none-counts.ensures c.requires, c.hold-held.ensures)
 
 pub sample-q-requires : goal.sample-q-requires
 sample-q-requires c =
-    let a = c in
-    let t = a in
-    let l = t in
-    let inv = l.loop-i.invariant in
-    (ready inv.0 t.loop-i-test.true a.advance-moving.ensures l.of_bits-d.ensures, (inv.1, sym c.is_quiet.ensures ∙ c.if-is_quiet.true))
+    let inv = c.loop-i.invariant in
+    record { ready = ready inv.0 c.loop-i-test.true c.advance-moving.ensures c.of_bits-d.ensures; held_of_step = inv.1; step_stays = sym c.is_quiet.ensures ∙ c.if-is_quiet.true }
 
 pub loop-i-preserved-then-is_quiet : goal.loop-i-preserved-then-is_quiet
 loop-i-preserved-then-is_quiet c =
-    let u = c in
-    let a = u in
-    let t = a in
-    let l = t in
-    let inv = l.loop-i.invariant in
-    quiet_turn inv.0 t.loop-i-test.true a.advance-moving.ensures l.of_bits-d.ensures c.sample-q.ensures inv.1 (sym u.is_quiet.ensures ∙ u.if-is_quiet.true)
+    let inv = c.loop-i.invariant in
+    quiet_turn inv.0 c.loop-i-test.true c.advance-moving.ensures c.of_bits-d.ensures c.sample-q.ensures inv.1 (sym c.is_quiet.ensures ∙ c.if-is_quiet.true)
 
 pub sample-t-requires : goal.sample-t-requires
 sample-t-requires c =
-    let a = c in
-    let t = a in
-    let l = t in
-    ready l.loop-i.invariant.0 t.loop-i-test.true a.advance-moving.ensures l.of_bits-d.ensures
+    ready c.loop-i.invariant.0 c.loop-i-test.true c.advance-moving.ensures c.of_bits-d.ensures
 
 pub hold-held-requires-else-is_quiet : goal.hold-held-requires-else-is_quiet
 hold-held-requires-else-is_quiet c =
-    let a = c in
-    let t = a in
-    let l = t in
-    held_next l.loop-i.invariant.0 t.loop-i-test.true a.advance-moving.ensures l.of_bits-d.ensures c.sample-t.ensures
+    held_next c.loop-i.invariant.0 c.loop-i-test.true c.advance-moving.ensures c.of_bits-d.ensures c.sample-t.ensures
 
 pub loop-i-preserved : goal.loop-i-preserved
 loop-i-preserved c =
-    let u = c in
-    let a = u in
-    let t = a in
-    let l = t in
-    let inv = l.loop-i.invariant.0 in
-    let e = made inv t.loop-i-test.true a.advance-moving.ensures l.of_bits-d.ensures u.sample-t.ensures in
-    (turning_more inv t.loop-i-test.true a.advance-moving.ensures (keeps _) c.sum-counts.ensures e, c.hold-held-else-is_quiet.ensures)
+    let inv = c.loop-i.invariant.0 in
+    let e = made inv c.loop-i-test.true c.advance-moving.ensures c.of_bits-d.ensures c.sample-t.ensures in
+    (turning_more inv c.loop-i-test.true c.advance-moving.ensures (keeps _) c.sum-counts.ensures e, c.hold-held-else-is_quiet.ensures)
 
 pub of_bits-d-requires : goal.of_bits-d-requires
 of_bits-d-requires c = let b = c.requires.fit.valid.bits_in in (b.low, b.high)

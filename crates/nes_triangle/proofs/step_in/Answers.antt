@@ -7,18 +7,15 @@ use Rattle.nes_triangle.proofs.step_in.Goals as goal
 
 pub overflow_cast-result : goal.overflow_cast-result
 overflow_cast-result c =
-    let a = c in
-    let fits = a.ranges.step in
-    (not_negative (to_z w32 (of_z w32 a.args.step)) c.if-step-lt0.false, rw (to_z-of_z fits) (Fits-nat_abs tt fits))
+    let fits = c.ranges.step in
+    (not_negative (to_z w32 (of_z w32 c.args.step)) c.if-step-lt0.false, rw (to_z-of_z fits) (Fits-nat_abs tt fits))
 
 pub steps-requires : goal.steps-requires
 steps-requires c = c.tested_bits.ensures.1
 
 pub returns-then-step-lt0 : goal.returns-then-step-lt0
-returns-then-step-lt0 c = negative _ _ c.ranges.step c.if-step-lt0.true
+returns-then-step-lt0 c = negative c.args.num_bits _ c.ranges.step c.if-step-lt0.true
 
 pub returns-else-step-lt0 : goal.returns-else-step-lt0
 returns-else-step-lt0 c =
-    let u = c in
-    let a = u in
-    step_in_is a.args.num_bits a.args.step _ _ a.ranges.step u.if-step-lt0.false c.tested_bits.ensures.0 c.steps.ensures
+    step_in_is c.args.num_bits c.args.step _ _ c.ranges.step c.if-step-lt0.false c.tested_bits.ensures.0 c.steps.ensures

@@ -5,8 +5,4 @@ use Rattle.rooms.proofs.advance.Goals as goal
 
 pub returns : goal.returns
 returns c =
-    let d = c in
-    let e = d in
-    let f = e in
-    let g = f in
-    rw (g.next.ensures, f.next-2.ensures, e.next-3.ensures, d.next-4.ensures, c.next-5.ensures) (moved_places _ g.well_formed.0.1.0.1)
+    rw (c.next.ensures, c.next-2.ensures, c.next-3.ensures, c.next-4.ensures, c.next-5.ensures) (moved_places _ c.well_formed.0.1.0.1)

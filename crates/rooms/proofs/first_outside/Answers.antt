@@ -19,8 +19,7 @@ loop-k-init c = let w = c.walk.invariant in moving_start w.2.most w.1
 
 pub loop-k-preserved : goal.loop-k-preserved
 loop-k-preserved c =
-    let t = c in
-    moving_more t.loop-k.invariant _ _ _ _ t.loop-k-test.true c.next-p.ensures c.in_room.ensures c.if-not-in_room.false-raw
+    moving_more c.loop-k.invariant _ _ _ _ c.loop-k-test.true c.next-p.ensures c.in_room.ensures c.if-not-in_room.false-raw
 
 pub walk-preserved : goal.walk-preserved
 walk-preserved c =
@@ -34,8 +33,7 @@ returns-then-i-n c = let w = c.walk.invariant in walked_end _ _ _ _ _ w.0 c.if-i
 
 pub returns-then-not-in_room : goal.returns-then-not-in_room
 returns-then-not-in_room c =
-    let t = c in
-    let w = t.walk.invariant in
-    walked_out _ _ _ _ _ w.0 t.if-i-n.false
-    (moving_out t.loop-k.invariant _ _ _ _ t.loop-k-test.true c.next-p.ensures c.in_room.ensures c.if-not-in_room.true-raw)
+    let w = c.walk.invariant in
+    walked_out _ _ _ _ _ w.0 c.if-i-n.false
+    (moving_out c.loop-k.invariant _ _ _ _ c.loop-k-test.true c.next-p.ensures c.in_room.ensures c.if-not-in_room.true-raw)
     ∙ sym (walk_front _ _ w.2)

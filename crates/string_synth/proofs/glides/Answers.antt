@@ -7,8 +7,4 @@ use Rattle.string_synth.proofs.glides.Goals as goal
 pub returns : goal.returns
 unfolding all_of
 returns c =
-    let n4 = c in
-    let n3 = n4 in
-    let n2 = n3 in
-    let n1 = n2 in
-    rw (c.new-5.ensures, n4.new-4.ensures, n3.new-3.ensures, n2.new-2.ensures, n1.new.ensures, n1.safe-safe.ensures) (simp and-true)
+    rw (c.new-5.ensures, c.new-4.ensures, c.new-3.ensures, c.new-2.ensures, c.new.ensures, c.safe-safe.ensures) (simp and-true)

@@ -14,25 +14,20 @@ overflow_cast-s c = let v = c.requires.fit.valid in cast_segment v.segment (omeg
 
 pub loop-i-init : goal.loop-i-init
 loop-i-init c =
-    let b = c in
-    let v = b.requires.fit.valid in
-    (turning_start (omega (arith, b.well_formed.1.0.1.0.1)) c.none-counts.ensures b.requires, c.starts_of-starts.ensures ∙ rw (held_segment v.segment (omega (arith, v.below))))
+    let v = c.requires.fit.valid in
+    (turning_start (omega (arith, c.well_formed.1.0.1.0.1)) c.none-counts.ensures c.requires, c.starts_of-starts.ensures ∙ rw (held_segment v.segment (omega (arith, v.below))))
 
 pub sample-q-requires : goal.sample-q-requires
 sample-q-requires c =
-    let q = c in
-    let inv = q.loop-i.invariant in
-    (inv.0.ok, (inv.1, sym q.is_quiet.ensures ∙ c.if-is_quiet.true))
+    let inv = c.loop-i.invariant in
+    record { valid = inv.0.ok; starts_of_segment = inv.1; segment_stays = sym c.is_quiet.ensures ∙ c.if-is_quiet.true }
 
 pub loop-i-preserved-then-is_quiet : goal.loop-i-preserved-then-is_quiet
 loop-i-preserved-then-is_quiet c =
-    let t = c in
-    let a = t in
-    let l = a in
-    let inv = l.loop-i.invariant in
-    let place = turning_place inv.0 l.loop-i-test.true a.advance-moving.ensures in
-    let q = sym t.is_quiet.ensures ∙ c.if-is_quiet.true in (
-      turning_quiet inv.0 l.loop-i-test.true a.advance-moving.ensures keeps
+    let inv = c.loop-i.invariant in
+    let place = turning_place inv.0 c.loop-i-test.true c.advance-moving.ensures in
+    let q = sym c.is_quiet.ensures ∙ c.if-is_quiet.true in (
+      turning_quiet inv.0 c.loop-i-test.true c.advance-moving.ensures keeps
           (quiet_made _ _ _ inv.0.ok inv.1 q _ c.sample-q.ensures
           ∙ rw (c.sample-q.ensures, place 0 (lit< tt), place 1 (lit< tt), place 2 (lit< tt), place 3 (lit< tt), place 4 (lit< tt))),
       quiet_starts _ _ _ inv.0.ok inv.1 q _ c.sample-q.ensures,
@@ -43,25 +38,20 @@ overflow_cast-s-else-is_quiet c = cast_segment (sampled_segment _ _ _ c.sample-t
 
 pub overflow_add-i-else-is_quiet : goal.overflow_add-i-else-is_quiet
 overflow_add-i-else-is_quiet c =
-    let l = c in
-    let inv = l.loop-i.invariant.0 in
-    record { fits = omega (arith, l.loop-i-test.true, inv.long, inv.short) }
+    let inv = c.loop-i.invariant.0 in
+    record { fits = omega (arith, c.loop-i-test.true, inv.long, inv.short) }
 
 pub loop-i-smaller : goal.loop-i-smaller
 loop-i-smaller c =
-    let l = c in
-    omega (arith, l.loop-i-test.true, l.loop-i.invariant.0.long)
+    omega (arith, c.loop-i-test.true, c.loop-i.invariant.0.long)
 
 pub loop-i-preserved : goal.loop-i-preserved
 loop-i-preserved c =
-    let u = c in
-    let a = u in
-    let l = a in
-    let inv = l.loop-i.invariant.0 in
-    let place = turning_place inv l.loop-i-test.true a.advance-moving.ensures in (
-      turning_more inv l.loop-i-test.true a.advance-moving.ensures keeps c.sum-counts.ensures
-          (rw (u.sample-t.ensures, place 0 (lit< tt), place 1 (lit< tt), place 2 (lit< tt), place 3 (lit< tt), place 4 (lit< tt))),
-      c.starts_of-starts-else-is_quiet.ensures ∙ rw (held_segment (sampled_segment _ _ _ u.sample-t.ensures) (reached_small _ _)),
+    let inv = c.loop-i.invariant.0 in
+    let place = turning_place inv c.loop-i-test.true c.advance-moving.ensures in (
+      turning_more inv c.loop-i-test.true c.advance-moving.ensures keeps c.sum-counts.ensures
+          (rw (c.sample-t.ensures, place 0 (lit< tt), place 1 (lit< tt), place 2 (lit< tt), place 3 (lit< tt), place 4 (lit< tt))),
+      c.starts_of-starts-else-is_quiet.ensures ∙ rw (held_segment (sampled_segment _ _ _ c.sample-t.ensures) (reached_small _ _)),
     )
 
 pub shape_of-out : goal.shape_of-out

@@ -19,51 +19,30 @@ returns-then-registration-ne7 c = rw c.refuse-then-registration-ne7.ensures (sym
 
 pub returns-then-not-state_in : goal.returns-then-not-state_in
 returns-then-not-state_in c =
-    let t = c in
     rw c.refuse-then-not-state_in.ensures
-    (sym (refused_by string_synth _ _ (later (le-leb _ _ t.if-out-gt4096.false) (later (eq-eqb _ _ t.if-registration-ne7.false) (here (sym t.state_in.ensures ∙ not-true _ c.if-not-state_in.true-raw))))))
+    (sym (refused_by string_synth _ _ (later (le-leb _ _ c.if-out-gt4096.false) (later (eq-eqb _ _ c.if-registration-ne7.false) (here (sym c.state_in.ensures ∙ not-true _ c.if-not-state_in.true-raw))))))
 
 pub returns-then-not-parameters_in : goal.returns-then-not-parameters_in
 returns-then-not-parameters_in c =
-    let p = c in
-    let t = p in
     rw c.refuse-then-not-parameters_in.ensures
-    (sym (refused_by string_synth _ _ (later (le-leb _ _ t.if-out-gt4096.false) (later (eq-eqb _ _ t.if-registration-ne7.false) (later (sym t.state_in.ensures ∙ not-false _ p.if-not-state_in.false-raw) (here (sym p.parameters_in.ensures ∙ not-true _ c.if-not-parameters_in.true-raw)))))))
+    (sym (refused_by string_synth _ _ (later (le-leb _ _ c.if-out-gt4096.false) (later (eq-eqb _ _ c.if-registration-ne7.false) (later (sym c.state_in.ensures ∙ not-false _ c.if-not-state_in.false-raw) (here (sym c.parameters_in.ensures ∙ not-true _ c.if-not-parameters_in.true-raw)))))))
 
 pub returns-then-frequency : goal.returns-then-frequency
 returns-then-frequency c =
-    let e = c in
-    let p = e in
-    let t = p in
     rw c.refuse-then-frequency.ensures
-    (sym (refused_by string_synth _ _ (later (le-leb _ _ t.if-out-gt4096.false) (later (eq-eqb _ _ t.if-registration-ne7.false) (later (sym t.state_in.ensures ∙ not-false _ p.if-not-state_in.false-raw) (later (sym p.parameters_in.ensures ∙ not-false _ e.if-not-parameters_in.false-raw) (here (ap not c.if-frequency.true))))))))
+    (sym (refused_by string_synth _ _ (later (le-leb _ _ c.if-out-gt4096.false) (later (eq-eqb _ _ c.if-registration-ne7.false) (later (sym c.state_in.ensures ∙ not-false _ c.if-not-state_in.false-raw) (later (sym c.parameters_in.ensures ∙ not-false _ c.if-not-parameters_in.false-raw) (here (ap not c.if-frequency.true))))))))
 
 pub drift_or_play-requires : goal.drift_or_play-requires
 drift_or_play-requires c =
-    let m = c in
-    let to = m in
-    let h = to in
-    let e = h in
-    let p = e in
-    let t = p in
-    let l = t in
-    let k = l in
-    let g = k.well_formed in
+    let g = c.well_formed in
     let s = g.0.1.1 in
-    let v = valid_of _ (holds s.0.1, tt) (sym t.state_in.ensures ∙ not-false _ p.if-not-state_in.false-raw) in
-    guarded (record { short = l.if-out-gt4096.false; valid = v }) (courses k.args.state to.targets-to.result)
-    (presumed _ _ _ (holds g.1.0.1) k.shared_slice_known-1.given (holds g.1.1.1.0.1) t.if-registration-ne7.false (sym p.parameters_in.ensures ∙ not-false _ e.if-not-parameters_in.false-raw) h.if-frequency.false _ _
-    (holds s.1.1.1.0.1, (holds s.1.1.1.1.0.1, (holds s.1.1.1.1.1.0.1, (holds s.1.1.1.1.1.1.0.1, (holds s.1.1.1.1.1.1.1.0.1, tt))))) v to.targets-to.ensures)
-    refl _ m.glides.ensures
+    let v = valid_of _ (holds s.0.1, tt) (sym c.state_in.ensures ∙ not-false _ c.if-not-state_in.false-raw) in
+    guarded (record { short = c.if-out-gt4096.false; valid = v }) (courses c.args.state c.targets-to.result)
+    (presumed _ _ _ (holds g.1.0.1) c.shared_slice_known-1.given (holds g.1.1.1.0.1) c.if-registration-ne7.false (sym c.parameters_in.ensures ∙ not-false _ c.if-not-parameters_in.false-raw) c.if-frequency.false _ _
+    (holds s.1.1.1.0.1, (holds s.1.1.1.1.0.1, (holds s.1.1.1.1.1.0.1, (holds s.1.1.1.1.1.1.0.1, (holds s.1.1.1.1.1.1.1.0.1, tt))))) v c.targets-to.ensures)
+    refl _ c.glides.ensures
 
 pub returns : goal.returns
 returns c =
-    let d = c in
-    let m = d in
-    let to = m in
-    let h = to in
-    let e = h in
-    let p = e in
-    let t = p in
-    run_from string_synth _ _ refl (le-leb _ _ t.if-out-gt4096.false, (eq-eqb _ _ t.if-registration-ne7.false, (sym t.state_in.ensures ∙ not-false _ p.if-not-state_in.false-raw, (sym p.parameters_in.ensures ∙ not-false _ e.if-not-parameters_in.false-raw, (ap not h.if-frequency.false, tt)))))
-    [] (rw (m.glides.ensures, to.targets-to.ensures)) d.drift_or_play.ensures
+    run_from string_synth _ _ refl (le-leb _ _ c.if-out-gt4096.false, (eq-eqb _ _ c.if-registration-ne7.false, (sym c.state_in.ensures ∙ not-false _ c.if-not-state_in.false-raw, (sym c.parameters_in.ensures ∙ not-false _ c.if-not-parameters_in.false-raw, (ap not c.if-frequency.false, tt)))))
+    [] (rw (c.glides.ensures, c.targets-to.ensures)) c.drift_or_play.ensures

@@ -6,4 +6,4 @@ use Rattle.string_synth.proofs.state_in.Goals as goal
 
 pub returns : goal.returns
 unfolding state_in
-returns c = rw (c.IsPlace-in.ensures, c.within.ensures, c.gains_in.ensures) (joined_all _ (_ ∷ _ ∷ _ ∷ []))
+returns c = rw (c.place_in.ensures, c.within.ensures, c.gains_in.ensures) (joined_all _ (_ ∷ _ ∷ _ ∷ []))

@@ -5,4 +5,4 @@ use Rattle.ranges.proofs.AllOf.{joined_all}
 use Rattle.super_square.proofs.glides.Goals as goal
 
 pub returns : goal.returns
-returns c = let s = c in cc (joined_all s.safe.result (s.safe-2.result ∷ []))
+returns c = cc (joined_all c.safe.result (c.safe-2.result ∷ []))

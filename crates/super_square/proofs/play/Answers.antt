@@ -21,30 +21,23 @@ sample-q-requires c = sym c.is_quiet.ensures ∙ c.if-is_quiet.true
 
 pub loop-i-preserved-then-is_quiet : goal.loop-i-preserved-then-is_quiet
 loop-i-preserved-then-is_quiet c =
-    let t = c in
-    let a = t in
-    let l = a in
-    let inv = l.loop-i.invariant in
-    let place = turning_place inv l.loop-i-test.true a.advance-moving.ensures in
-    let q = sym t.is_quiet.ensures ∙ c.if-is_quiet.true in
-    turning_quiet inv l.loop-i-test.true a.advance-moving.ensures keeps
+    let inv = c.loop-i.invariant in
+    let place = turning_place inv c.loop-i-test.true c.advance-moving.ensures in
+    let q = sym c.is_quiet.ensures ∙ c.if-is_quiet.true in
+    turning_quiet inv c.loop-i-test.true c.advance-moving.ensures keeps
     (quiet_made _ _ _ q c.sample-q.ensures ∙ rw (c.sample-q.ensures, place 0 (lit< tt), place 1 (lit< tt)))
 
 pub sample-t-requires : goal.sample-t-requires
 sample-t-requires c =
-    let a = c in
-    let l = a in
-    let inv = l.loop-i.invariant in
-    let place = turning_place inv l.loop-i-test.true a.advance-moving.ensures in
-    rw (place 0 (lit< tt), place 1 (lit< tt)) (law_of _ _ inv.ok (turning_inside inv l.loop-i-test.true a.advance-moving.ensures)).0
+    let inv = c.loop-i.invariant in
+    let place = turning_place inv c.loop-i-test.true c.advance-moving.ensures in
+    rw (place 0 (lit< tt), place 1 (lit< tt)) (law_of _ _ inv.ok (turning_inside inv c.loop-i-test.true c.advance-moving.ensures)).0
 
 pub loop-i-preserved : goal.loop-i-preserved
 loop-i-preserved c =
-    let a = c in
-    let l = a in
-    let inv = l.loop-i.invariant in
-    let place = turning_place inv l.loop-i-test.true a.advance-moving.ensures in
-    turning_more inv l.loop-i-test.true a.advance-moving.ensures keeps c.sum-counts.ensures (rw (c.sample-t.ensures, place 0 (lit< tt), place 1 (lit< tt)))
+    let inv = c.loop-i.invariant in
+    let place = turning_place inv c.loop-i-test.true c.advance-moving.ensures in
+    turning_more inv c.loop-i-test.true c.advance-moving.ensures keeps c.sum-counts.ensures (rw (c.sample-t.ensures, place 0 (lit< tt), place 1 (lit< tt)))
 
 pub loop-i-smaller-then-is_quiet : goal.loop-i-smaller-then-is_quiet
 loop-i-smaller-then-is_quiet c = omega (arith, c.loop-i.invariant.long)

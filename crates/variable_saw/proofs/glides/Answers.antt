@@ -7,7 +7,4 @@ use Rattle.variable_saw.proofs.glides.Goals as goal
 pub returns : goal.returns
 unfolding all_of
 returns c =
-    let n = c in
-    let s = n in
-    let w = s in
-    rw (c.still-2.ensures, c.still.ensures, n.new-3.ensures, n.new-2.ensures, n.new.ensures, s.safe-2.ensures, s.safe.ensures, w.clamp_width-width.ensures, w.clip-target.ensures, and-true)
+    rw (c.still-2.ensures, c.still.ensures, c.new-3.ensures, c.new-2.ensures, c.new.ensures, c.safe-2.ensures, c.safe.ensures, c.clamp_width-width.ensures, c.clip-target.ensures, and-true)

@@ -25,28 +25,18 @@ found_in false n g e h = h ∙ rw e
 
 pub play-requires : goal.play-requires
 play-requires c =
-    let t = c in
-    let w = t in
-    let m = w in
-    let a = m.args in
+    let a = c.args in
     let o = a.phase_output in
-    finds_playable (rooms o) (cond o 0 1) _ _ _ (found_in o _ a.glides m.modulation_room.ensures w.find_drift.ensures) m.requires t.in-Nowhere.is
+    finds_playable (rooms o) (cond o 0 1) _ _ _ (found_in o _ a.glides c.modulation_room.ensures c.find_drift.ensures) c.requires c.in-Nowhere.is
 
 pub returns-in-Outside : goal.returns-in-Outside
 returns-in-Outside c =
-    let t = c in
-    let w = t in
-    let m = w in
-    let a = m.args in
+    let a = c.args in
     let o = a.phase_output in
-    rw c.refuse.ensures (finds_drift (rooms o) (cond o 0 1) _ _ _ (found_in o _ a.glides m.modulation_room.ensures w.find_drift.ensures) m.requires _ t.in-Outside.is)
+    rw c.refuse.ensures (finds_drift (rooms o) (cond o 0 1) _ _ _ (found_in o _ a.glides c.modulation_room.ensures c.find_drift.ensures) c.requires _ c.in-Outside.is)
 
 pub returns-in-Nowhere : goal.returns-in-Nowhere
 returns-in-Nowhere c =
-    let p = c in
-    let t = p in
-    let w = t in
-    let m = w in
-    let a = m.args in
+    let a = c.args in
     let o = a.phase_output in
-    p.play.ensures ∙ finds_none (rooms o) (cond o 0 1) _ _ _ (found_in o _ a.glides m.modulation_room.ensures w.find_drift.ensures) m.requires _ t.in-Nowhere.is
+    c.play.ensures ∙ finds_none (rooms o) (cond o 0 1) _ _ _ (found_in o _ a.glides c.modulation_room.ensures c.find_drift.ensures) c.requires _ c.in-Nowhere.is

@@ -7,8 +7,4 @@ use Rattle.variable_shape.proofs.glides.Goals as goal
 pub returns : goal.returns
 unfolding all_of
 returns c =
-    let n = c in
-    let s = n in
-    let p = s in
-    let w = p in
-    rw (and_assoc p.safe.result s.safe-2.result s.safe-3.result, c.new-5.ensures, c.new-4.ensures, n.new-3.ensures, n.new-2.ensures, n.new.ensures, s.safe-3.ensures, s.safe-2.ensures, p.safe.ensures, w.clamp_width-pw_target.ensures, w.clip-slave_target.ensures, w.clip-master_target.ensures, and-true)
+    rw (and_assoc c.safe.result c.safe-2.result c.safe-3.result, c.new-5.ensures, c.new-4.ensures, c.new-3.ensures, c.new-2.ensures, c.new.ensures, c.safe-3.ensures, c.safe-2.ensures, c.safe.ensures, c.clamp_width-pw_target.ensures, c.clip-slave_target.ensures, c.clip-master_target.ensures, and-true)

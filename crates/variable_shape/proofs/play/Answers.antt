@@ -18,8 +18,7 @@ use Rattle.variable_shape.proofs.play.Goals as goal
 pub loop-i-init : goal.loop-i-init
 unfolding Stays
 loop-i-init c =
-    let e = c in
-    (turning_start (enough e.args.phase_output e.well_formed.1.0.1.0.1) c.none-counts.ensures e.requires, λ h. refl)
+    (turning_start (enough c.args.phase_output c.well_formed.1.0.1.0.1) c.none-counts.ensures c.requires, λ h. refl)
 
 pub sample-q-requires : goal.sample-q-requires
 sample-q-requires c = sym c.is_quiet.ensures ∙ c.if-is_quiet.true

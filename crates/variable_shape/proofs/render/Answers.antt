@@ -18,30 +18,22 @@ returns-then-out-gt4096 c = rw c.refuse.ensures (sym (refused_by (variable_shape
 
 pub returns-then-not-state_in : goal.returns-then-not-state_in
 returns-then-not-state_in c =
-    let t = c in
-    rw c.refuse-then-not-state_in.ensures (sym (refused_by (variable_shape _) _ _ (later (le-leb _ _ t.if-out-gt4096.false) (here (sym t.state_in.ensures ∙ not-true _ c.if-not-state_in.true-raw)))))
+    rw c.refuse-then-not-state_in.ensures (sym (refused_by (variable_shape _) _ _ (later (le-leb _ _ c.if-out-gt4096.false) (here (sym c.state_in.ensures ∙ not-true _ c.if-not-state_in.true-raw)))))
 
 pub returns-then-not-parameters_in : goal.returns-then-not-parameters_in
 returns-then-not-parameters_in c =
-    let p = c in
-    let t = p in
     rw c.refuse-then-not-parameters_in.ensures
-    (sym (refused_by (variable_shape _) _ _ (later (le-leb _ _ t.if-out-gt4096.false) (later (sym t.state_in.ensures ∙ not-false _ p.if-not-state_in.false-raw) (here (sym p.parameters_in.ensures ∙ not-true _ c.if-not-parameters_in.true-raw))))))
+    (sym (refused_by (variable_shape _) _ _ (later (le-leb _ _ c.if-out-gt4096.false) (later (sym c.state_in.ensures ∙ not-false _ c.if-not-state_in.false-raw) (here (sym c.parameters_in.ensures ∙ not-true _ c.if-not-parameters_in.true-raw))))))
 
 pub drift_or_play-requires : goal.drift_or_play-requires
 drift_or_play-requires c =
-    let b = c in
-    let e = b in
-    let p = e in
-    let t = p in
-    let r = t in
-    let a = r.args in
-    let s = r.well_formed.0.1.1 in
+    let a = c.args in
+    let s = c.well_formed.0.1.1 in
     let f = s.1.1.1.1.1 in
-    let g = r.well_formed.1 in
+    let g = c.well_formed.1 in
     let o = a.phase_output in
-    let in_range = sym t.state_in.ensures ∙ not-false _ p.if-not-state_in.false-raw in
-    guarded (record { short = t.if-out-gt4096.false; valid = valid_of _ in_range (holds s.0.1, (holds s.1.0.1, tt)) })
+    let in_range = sym c.state_in.ensures ∙ not-false _ c.if-not-state_in.false-raw in
+    guarded (record { short = c.if-out-gt4096.false; valid = valid_of _ in_range (holds s.0.1, (holds s.1.0.1, tt)) })
     (courses a.state a.master_frequency a.frequency a.pw a.waveshape a.phase_modulation o)
     (presumed _ _ _ _ _ _ o
     (record {
@@ -56,16 +48,11 @@ drift_or_play-requires c =
       shape = holds g.1.1.1.0.1;
       modulation = holds g.1.1.1.1.0.1;
     })
-    in_range (sym p.parameters_in.ensures ∙ not-false _ e.if-not-parameters_in.false-raw))
+    in_range (sym c.parameters_in.ensures ∙ not-false _ c.if-not-parameters_in.false-raw))
     (course_rooms a.state a.master_frequency a.frequency a.pw a.waveshape a.phase_modulation o) _
-    (course_glides a.state a.master_frequency a.frequency a.pw a.waveshape a.phase_modulation _ o b.glides-moving.ensures)
+    (course_glides a.state a.master_frequency a.frequency a.pw a.waveshape a.phase_modulation _ o c.glides-moving.ensures)
 
 pub returns : goal.returns
 returns c =
-    let d = c in
-    let b = d in
-    let e = b in
-    let p = e in
-    let t = p in
-    rendered _ _ _ (le-leb _ _ t.if-out-gt4096.false, (sym t.state_in.ensures ∙ not-false _ p.if-not-state_in.false-raw, (sym p.parameters_in.ensures ∙ not-false _ e.if-not-parameters_in.false-raw, tt)))
-    (ap (λ (g : Glides). g.interpolators) b.glides-moving.ensures) d.drift_or_play.ensures
+    rendered _ _ _ (le-leb _ _ c.if-out-gt4096.false, (sym c.state_in.ensures ∙ not-false _ c.if-not-state_in.false-raw, (sym c.parameters_in.ensures ∙ not-false _ c.if-not-parameters_in.false-raw, tt)))
+    (ap (λ (g : Glides). g.interpolators) c.glides-moving.ensures) c.drift_or_play.ensures

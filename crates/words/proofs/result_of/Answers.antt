@@ -5,6 +5,5 @@ use Rattle.words.proofs.result_of.Goals as goal
 
 pub returns : goal.returns
 returns c =
-    let told = c in
-    let a = told.args in
-    result_is a.answer a.counts c.number.ensures c.index.ensures told.late-late.ensures
+    let a = c.args in
+    result_is a.answer a.counts c.number.ensures c.index.ensures c.late-late.ensures

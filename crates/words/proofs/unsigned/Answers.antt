@@ -22,9 +22,8 @@ overflow_sub-result-then-number-lt0 c =
 
 pub overflow_cast-result-else-number-lt0 : goal.overflow_cast-result-else-number-lt0
 overflow_cast-result-else-number-lt0 c =
-    let a = c in
-    let fits = a.ranges.number in
-    (not_negative (to_z w32 (of_z w32 a.args.number)) c.if-number-lt0.false, rw (to_z-of_z fits) (Fits-nat_abs tt fits))
+    let fits = c.ranges.number in
+    (not_negative (to_z w32 (of_z w32 c.args.number)) c.if-number-lt0.false, rw (to_z-of_z fits) (Fits-nat_abs tt fits))
 
 pub returns-then-number-lt0 : goal.returns-then-number-lt0
 returns-then-number-lt0 c =

@@ -5,7 +5,7 @@ use Rattle.classic.proofs.edges_of.square_edges.Goals as goal
 
 pub returns-then-crossed : goal.returns-then-crossed
 unfolding square_edges
-returns-then-crossed c = let t = c in rw (c.square_wrap.ensures, ← t.square_width-crossed.ensures, c.if-crossed.true) refl
+returns-then-crossed c = rw (c.square_wrap.ensures, ← c.square_width-crossed.ensures, c.if-crossed.true) refl
 
 pub returns-else-crossed : goal.returns-else-crossed
 unfolding square_edges

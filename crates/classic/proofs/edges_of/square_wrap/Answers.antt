@@ -6,5 +6,4 @@ use Rattle.classic.proofs.edges_of.square_wrap.Goals as goal
 pub returns : goal.returns
 unfolding square_wrap
 returns c =
-    let n = c in
-    rw (c.turn.ensures, n.next_blep_sample.ensures, n.this_blep_sample.ensures) refl
+    rw (c.turn.ensures, c.next_blep_sample.ensures, c.this_blep_sample.ensures) refl

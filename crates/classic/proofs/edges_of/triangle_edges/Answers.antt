@@ -5,7 +5,7 @@ use Rattle.classic.proofs.edges_of.triangle_edges.Goals as goal
 
 pub returns-then-crossed : goal.returns-then-crossed
 unfolding triangle_edges
-returns-then-crossed c = let t = c in rw (c.triangle_wrap.ensures, ← t.triangle_width-crossed.ensures, c.if-crossed.true) refl
+returns-then-crossed c = rw (c.triangle_wrap.ensures, ← c.triangle_width-crossed.ensures, c.if-crossed.true) refl
 
 pub returns-else-crossed : goal.returns-else-crossed
 unfolding triangle_edges

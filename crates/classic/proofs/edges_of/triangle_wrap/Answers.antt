@@ -6,5 +6,4 @@ use Rattle.classic.proofs.edges_of.triangle_wrap.Goals as goal
 pub returns : goal.returns
 unfolding triangle_wrap
 returns c =
-    let n = c in
-    rw (c.turn.ensures, n.next_integrated_blep_sample.ensures, n.this_integrated_blep_sample.ensures) refl
+    rw (c.turn.ensures, c.next_integrated_blep_sample.ensures, c.this_integrated_blep_sample.ensures) refl

@@ -3,4 +3,4 @@ use Rattle.std.proofs.Common.{rules}
 use Rattle.classic.proofs.quiet.is_quiet.Goals as goal
 
 pub returns : goal.returns
-returns c = rw (c.turns.ensures, c.width_of_lem.ensures)
+returns c = rw (c.turns.ensures, c.width_of-pw.ensures)

@@ -7,8 +7,4 @@ use Rattle.classic.proofs.quiet.sample.Goals as goal
 pub returns : goal.returns
 unfolding finish
 returns c =
-    let k = c in
-    let o = k in
-    let n = o in
-    let e = n in
-    rw (c.none.ensures, k.kept_width.ensures, o.put_out-o.ensures, n.naive_sample-next_sample.ensures, n.width_of_lem.ensures) (sym (sample_quiet e.args.shape e.args.s e.args.frequency e.args.step e.requires))
+    rw (c.none.ensures, c.kept_width.ensures, c.put_out-o.ensures, c.naive_sample-next_sample.ensures, c.width_of-pw.ensures) (sym (sample_quiet c.args.shape c.args.s c.args.frequency c.args.step c.requires))

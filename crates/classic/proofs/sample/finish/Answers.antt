@@ -6,7 +6,4 @@ use Rattle.classic.proofs.sample.finish.Goals as goal
 pub returns : goal.returns
 unfolding finish
 returns c =
-    let k = c in
-    let o = k in
-    let n = o in
-    rw (c.counts.ensures, k.kept_width.ensures, o.put_out-o.ensures, n.naive_sample.ensures, n.width_of_lem.ensures) refl
+    rw (c.counts.ensures, c.kept_width.ensures, c.put_out-o.ensures, c.naive_sample.ensures, c.width_of-pw.ensures) refl

@@ -6,7 +6,4 @@ use Rattle.classic.proofs.sample.sample.Goals as goal
 pub returns : goal.returns
 unfolding sample_of
 returns c =
-    let e = c in
-    let w = e in
-    let o = w in
-    rw (c.finish.ensures, e.edges_of-e.ensures, w.width_of_lem.ensures, o.one_if-cycles.ensures, o.start-start.ensures) refl
+    rw (c.finish.ensures, c.edges_of-e.ensures, c.width_of.ensures, c.one_if-cycles.ensures, c.start-start.ensures) refl

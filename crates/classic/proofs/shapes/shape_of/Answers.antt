@@ -10,11 +10,8 @@ returns-in-0 c = rw c.in-0.is
 
 pub returns-in-8-to-4294967295 : goal.returns-in-8-to-4294967295
 returns-in-8-to-4294967295 c =
-    let r = c.in-8-to-4294967295.rest in
-    let s = r.0.0.0.0 in
     let k = c.args.number in
-    let four : 4 ≤ k = omega (arith, s.1, s.0.1, s.0.0.1, s.0.0.0.1) in
-    sym (get_or-eq_default in_order NoShape {n = k} (omega (arith, four, r.1, r.0.1, r.0.0.1, r.0.0.0.1)))
+    sym (get_or-eq_default in_order NoShape {n = k} (omega arith))
 
 pub returns-in-1 : goal.returns-in-1
 returns-in-1 c = rw c.in-1.is

@@ -9,8 +9,7 @@ top-top-requires c = rw c.steps-num_steps.ensures (pow_pos _)
 
 pub scale-requires : goal.scale-requires
 scale-requires c =
-    let t = c in
-    top_some t.steps-num_steps.result _ (rw t.steps-num_steps.ensures (two_steps _ t.requires.0)) c.top-top.ensures
+    top_some c.steps-num_steps.result _ (rw c.steps-num_steps.ensures (two_steps _ c.requires.0)) c.top-top.ensures
 
 pub returns : goal.returns
 unfolding depth_of

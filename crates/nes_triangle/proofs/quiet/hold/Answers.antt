@@ -20,7 +20,5 @@ nes_level-requires c =
 
 pub returns : goal.returns
 returns c =
-    let n = c in
-    let f = n in
-    let p = f.requires in
-    rw (c.small-2.ensures, n.nes_level.ensures.0, f.small.ensures, step_back p.0 p.1, p.0.is) (refl, refl)
+    let p = c.requires in
+    rw (c.small-2.ensures, c.nes_level.ensures.0, c.small.ensures, step_back p.0 p.1, p.0.is) (refl, refl)

@@ -5,9 +5,6 @@ use Rattle.nes_triangle.proofs.quiet.sample.Goals as goal
 
 pub returns : goal.returns
 returns c =
-    let u = c in
-    let l = u in
-    let f = l in
-    let p = f.requires in
-    rw (c.none.ensures, l.tri_level.ensures, f.fade-g.ensures, to_z-of_z {w = w32} (record { sfits = u.struct_told-1.given.1.1.0.1 }))
-    (sym (sample_quiet p.0 p.1.0 p.1.1))
+    let p = c.requires in
+    rw (c.none.ensures, c.tri_level.ensures, c.fade-g.ensures, to_z-of_z {w = w32} (record { sfits = c.struct_told-1.given.1.1.0.1 }))
+    (sym (sample_quiet p.ready p.held_of_step p.step_stays))

@@ -7,9 +7,5 @@ use Rattle.nes_triangle.proofs.sample.finish.Goals as goal
 pub returns : goal.returns
 unfolding finish reached_of
 returns c =
-    let l = c in
-    let f = l in
-    let n = f in
-    let a = n in
-    let step_fits : SFits w32 (pos a.args.e.step) = record { sfits = omega (arith, a.requires.0, a.requires.1) } in
-    λ s t x e. rw (l.tri_level.ensures, f.small-level.ensures, n.nes_level.ensures.0, to_z-of_z step_fits, e)
+    let step_fits : SFits w32 (pos c.args.e.step) = record { sfits = omega (arith, c.requires.0, c.requires.1) } in
+    λ s t x e. rw (c.tri_level.ensures, c.small-level.ensures, c.nes_level.ensures.0, to_z-of_z step_fits, e)

@@ -6,20 +6,12 @@ use Rattle.nes_triangle.proofs.sample.reach.Goals as goal
 
 pub turn-requires : goal.turn-requires
 turn-requires c =
-    let w = c in
-    let p = w in
-    turnable _ _ _ p.requires _ w.whole_part-whole.ensures
+    turnable _ _ _ c.requires _ c.whole_part-whole.ensures
 
 pub returns-then-on_step : goal.returns-then-on_step
 returns-then-on_step c =
-    let o = c in
-    let w = o in
-    let p = w in
-    reach_still _ _ _ _ p.peak-x.ensures w.whole_part-whole.ensures (sym o.on_step.ensures ∙ c.if-on_step.true) c.come_to.ensures
+    reach_still _ _ _ _ c.peak-x.ensures c.whole_part-whole.ensures (sym c.on_step.ensures ∙ c.if-on_step.true) c.come_to.ensures
 
 pub returns-else-on_step : goal.returns-else-on_step
 returns-else-on_step c =
-    let o = c in
-    let w = o in
-    let p = w in
-    reach_turned _ _ _ _ p.peak-x.ensures w.whole_part-whole.ensures (sym o.on_step.ensures ∙ c.if-on_step.false) c.turn.ensures
+    reach_turned _ _ _ _ c.peak-x.ensures c.whole_part-whole.ensures (sym c.on_step.ensures ∙ c.if-on_step.false) c.turn.ensures

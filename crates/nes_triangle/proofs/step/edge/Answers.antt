@@ -6,10 +6,7 @@ use Rattle.nes_triangle.proofs.step.edge.Goals as goal
 pub returns-then-t-discontinuity : goal.returns-then-t-discontinuity
 unfolding edge_of
 returns-then-t-discontinuity c =
-    let n = c in
-    let t = n in
-    let f = t in
-    rw (f.if-t-discontinuity.true, t.this_blep_sample.ensures, n.next_blep_sample.ensures, f.small.ensures)
+    rw (c.if-t-discontinuity.true, c.this_blep_sample.ensures, c.next_blep_sample.ensures, c.small.ensures)
 
 pub returns-else-t-discontinuity : goal.returns-else-t-discontinuity
 unfolding edge_of

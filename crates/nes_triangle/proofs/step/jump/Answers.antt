@@ -8,5 +8,4 @@ returns-then-g c = rw (c.edge.ensures, c.step_sign.ensures)
 
 pub returns-else-g : goal.returns-else-g
 returns-else-g c =
-    let a = c in
-    silent a.args.d.num_steps a.args.d.half _ _ _ _ _ (subst T (sym a.well_formed.1.0.1.1.0.1) tt) c.if-g.false
+    silent c.args.d.num_steps c.args.d.half _ _ _ _ _ (subst T (sym c.well_formed.1.0.1.1.0.1) tt) c.if-g.false

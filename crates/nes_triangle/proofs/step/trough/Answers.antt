@@ -6,9 +6,7 @@ use Rattle.nes_triangle.proofs.step.trough.Goals as goal
 pub returns-then-here-discontinuity : goal.returns-then-here-discontinuity
 unfolding trough_of
 returns-then-here-discontinuity c =
-    let n = c in
-    let t = n in
-    rw (t.if-here-discontinuity.true, t.this_integrated_blep_sample.ensures, n.next_integrated_blep_sample.ensures)
+    rw (c.if-here-discontinuity.true, c.this_integrated_blep_sample.ensures, c.next_integrated_blep_sample.ensures)
 
 pub returns-else-here-discontinuity : goal.returns-else-here-discontinuity
 unfolding trough_of

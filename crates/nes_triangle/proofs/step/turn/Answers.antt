@@ -8,9 +8,7 @@ use Rattle.nes_triangle.proofs.step.turn.Goals as goal
 pub returns-then-whole-d : goal.returns-then-whole-d
 unfolding turned_of
 returns-then-whole-d c =
-    let t = c in
-    let j = t in
-    rw (c.come_to.ensures, t.trough-z.ensures, j.jump-y.ensures, le-leb _ _ j.if-whole-d.true)
+    rw (c.come_to.ensures, c.trough-z.ensures, c.jump-y.ensures, le-leb _ _ c.if-whole-d.true)
 
 pub returns-else-whole-d : goal.returns-else-whole-d
 unfolding turned_of trough_of

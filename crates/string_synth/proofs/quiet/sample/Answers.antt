@@ -5,18 +5,17 @@ use Rattle.string_synth.proofs.Stays.{held_segment, cast_segment, reach_quiet}
 use Rattle.string_synth.proofs.quiet.sample.Goals as goal
 
 pub overflow_cast-s : goal.overflow_cast-s
-overflow_cast-s c = let v = c.requires.0 in cast_segment v.segment (omega (arith, v.below))
+overflow_cast-s c = let v = c.requires.valid in cast_segment v.segment (omega (arith, v.below))
 
 pub finish-requires : goal.finish-requires
 finish-requires c =
     let p = c.requires in
-    let v = p.0 in
-    rw (c.stay-e.ensures, held_segment v.segment (omega (arith, v.below))) (rw v.segment (omega (arith, v.below)), p.1.0)
+    let v = p.valid in
+    rw (c.stay-e.ensures, held_segment v.segment (omega (arith, v.below))) record { segment_in_range = rw v.segment (omega (arith, v.below)); starts_of_segment = p.starts_of_segment }
 
 pub returns : goal.returns
 unfolding sample_of
 returns c =
-    let b = c in
-    let p = b.requires in
-    let v = p.0 in
-    rw (c.finish.ensures, c.stay-e.ensures, held_segment v.segment (omega (arith, v.below)), reach_quiet _ _ b.args.saws v p.1.0 p.1.1)
+    let p = c.requires in
+    let v = p.valid in
+    rw (c.finish.ensures, c.stay-e.ensures, held_segment v.segment (omega (arith, v.below)), reach_quiet _ _ c.args.saws v p.starts_of_segment p.segment_stays)

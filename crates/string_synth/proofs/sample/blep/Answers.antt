@@ -6,7 +6,5 @@ use Rattle.string_synth.proofs.sample.blep.Goals as goal
 pub returns : goal.returns
 unfolding blep_of
 returns c =
-    let p = c in
-    let n = p in
-    let x = n.args in
-    rw (p.this_blep_sample.ensures, c.next_blep_sample.ensures, n.nearest_u32_to_f32.ensures) (refl {a = blep_of x.e x.discontinuity x.frequency})
+    let x = c.args in
+    rw (c.this_blep_sample.ensures, c.next_blep_sample.ensures, c.nearest_u32_to_f32.ensures) (refl {a = blep_of x.e x.discontinuity x.frequency})

@@ -6,7 +6,5 @@ use Rattle.string_synth.proofs.sample.cross.Goals as goal
 pub returns : goal.returns
 unfolding crossed
 returns c =
-    let d = c in
-    let w = d in
-    let x = w.args in
-    rw (c.soften.ensures, d.discontinuity.ensures, d.one_if.ensures, w.wrap_phase.ensures, w.wrap_segment-segment.ensures) (refl {a = crossed x.s x.saws x.phase x.whole})
+    let x = c.args in
+    rw (c.soften.ensures, c.discontinuity.ensures, c.one_if.ensures, c.wrap_phase.ensures, c.wrap_segment-segment.ensures) (refl {a = crossed x.s x.saws x.phase x.whole})

@@ -6,4 +6,4 @@ use Rattle.string_synth.proofs.sample.finish.Goals as goal
 
 pub returns : goal.returns
 unfolding finish
-returns c = rw (c.next_sample.ensures, to_z_pos w32 c.args.e.segment (lt_of_le_of_lt c.requires.0 (lit< tt))) refl
+returns c = rw (c.next_sample.ensures, to_z_pos w32 c.args.e.segment (lt_of_le_of_lt c.requires.segment_in_range (lit< tt))) refl

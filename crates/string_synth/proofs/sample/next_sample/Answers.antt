@@ -6,5 +6,4 @@ use Rattle.string_synth.proofs.sample.next_sample.Goals as goal
 pub returns : goal.returns
 unfolding next_sample
 returns c =
-    let x = c in
-    rw x.requires refl
+    rw c.requires refl

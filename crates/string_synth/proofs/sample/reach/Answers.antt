@@ -5,10 +5,8 @@ use Rattle.string_synth.proofs.sample.reach.Goals as goal
 
 pub returns-then-in_segment : goal.returns-then-in_segment
 returns-then-in_segment c =
-    let t = c in
-    reach_is _ _ _ _ _ t.whole_part-whole.ensures t.in_segment.ensures (rw c.if-in_segment.true c.stay.ensures)
+    reach_is _ _ _ _ _ c.whole_part-whole.ensures c.in_segment.ensures (rw c.if-in_segment.true c.stay.ensures)
 
 pub returns-else-in_segment : goal.returns-else-in_segment
 returns-else-in_segment c =
-    let t = c in
-    reach_is _ _ _ _ _ t.whole_part-whole.ensures t.in_segment.ensures (rw c.if-in_segment.false c.cross.ensures)
+    reach_is _ _ _ _ _ c.whole_part-whole.ensures c.in_segment.ensures (rw c.if-in_segment.false c.cross.ensures)

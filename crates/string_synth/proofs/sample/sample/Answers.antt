@@ -5,7 +5,7 @@ use Rattle.string_synth.specs.Sample.{sample_of}
 use Rattle.string_synth.proofs.sample.sample.Goals as goal
 
 pub finish-requires : goal.finish-requires
-finish-requires c = (rw c.reach-e.ensures (reached_small _ _), c.starts_of.ensures)
+finish-requires c = record { segment_in_range = rw c.reach-e.ensures (reached_small _ _); starts_of_segment = c.starts_of.ensures }
 
 pub returns : goal.returns
 unfolding sample_of

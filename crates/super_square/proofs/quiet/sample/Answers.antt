@@ -8,7 +8,5 @@ use Rattle.super_square.proofs.quiet.sample.Goals as goal
 pub returns : goal.returns
 unfolding finish
 returns c =
-    let n = c in
-    let s = n in
-    let p = s.args in
-    rw (n.level.ensures, c.none.ensures) (sym (sample_quiet p.s p.master_frequency p.slave_frequency s.requires))
+    let p = c.args in
+    rw (c.level.ensures, c.none.ensures) (sym (sample_quiet p.s p.master_frequency p.slave_frequency c.requires))

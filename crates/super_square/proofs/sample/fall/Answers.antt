@@ -6,4 +6,4 @@ use Rattle.super_square.proofs.sample.fall.Goals as goal
 
 pub returns : goal.returns
 unfolding fall_of
-returns c = let n = c in rw (c.fallen.ensures, n.this_blep_sample.ensures, n.next_blep_sample.ensures) refl
+returns c = rw (c.fallen.ensures, c.this_blep_sample.ensures, c.next_blep_sample.ensures) refl

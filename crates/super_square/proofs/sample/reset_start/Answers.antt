@@ -7,8 +7,5 @@ use Rattle.super_square.proofs.sample.reset_start.Goals as goal
 pub returns : goal.returns
 unfolding reset_start
 returns c =
-    let n = c in
-    let e = n in
-    let f = e in
-    let p = f.args in
-    rw (c.cut.ensures, n.level.ensures, e.edge.ensures, f.at_reset-found.ensures) (refl {a = reset_start p.s p.master_frequency p.slave_frequency p.master_phase})
+    let p = c.args in
+    rw (c.cut.ensures, c.level.ensures, c.edge.ensures, c.at_reset-found.ensures) (refl {a = reset_start p.s p.master_frequency p.slave_frequency p.master_phase})

@@ -6,4 +6,4 @@ use Rattle.super_square.proofs.sample.rise.Goals as goal
 
 pub returns : goal.returns
 unfolding rise_of
-returns c = let n = c in rw (c.risen.ensures, n.this_blep_sample.ensures, n.next_blep_sample.ensures) refl
+returns c = rw (c.risen.ensures, c.this_blep_sample.ensures, c.next_blep_sample.ensures) refl

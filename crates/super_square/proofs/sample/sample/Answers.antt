@@ -8,6 +8,4 @@ cross_if-e-requires c = start_crossable _ _ _ _ c.begin-start.ensures c.requires
 
 pub returns : goal.returns
 returns c =
-    let e = c in
-    let b = e in
-    sample_is _ _ _ _ _ _ _ _ b.begin-start.ensures e.cross_if-e.ensures c.leave-end.ensures c.after-t.ensures c.finish.ensures
+    sample_is _ _ _ _ _ _ _ _ c.begin-start.ensures c.cross_if-e.ensures c.leave-end.ensures c.after-t.ensures c.finish.ensures

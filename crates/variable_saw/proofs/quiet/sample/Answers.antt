@@ -8,6 +8,5 @@ use Rattle.variable_saw.proofs.quiet.sample.Goals as goal
 pub returns : goal.returns
 unfolding finish
 returns c =
-    let n = c in
-    let p = n.args in
-    rw (n.naive_sample.ensures, c.put_out.ensures, c.none.ensures) (sym (sample_quiet p.s p.frequency p.pw p.waveshape n.requires))
+    let p = c.args in
+    rw (c.naive_sample.ensures, c.put_out.ensures, c.none.ensures) (sym (sample_quiet p.s p.frequency p.pw p.waveshape c.requires))

@@ -7,11 +7,5 @@ use Rattle.variable_saw.proofs.sample.rise.Goals as goal
 pub returns : goal.returns
 unfolding rise_of
 returns c =
-    let e = c in
-    let n = e in
-    let i = n in
-    let b = i in
-    let t = b in
-    let s = t in
-    let p = s.args in
-    rw (c.risen.ensures, b.this_blep_sample.ensures, i.this_integrated_blep_sample.ensures, n.next_blep_sample.ensures, e.next_integrated_blep_sample.ensures, t.rise_time-t.ensures, s.triangle_step-step.ensures) (refl {a = rise_of p.w p.frequency p.previous_pw p.e})
+    let p = c.args in
+    rw (c.risen.ensures, c.this_blep_sample.ensures, c.this_integrated_blep_sample.ensures, c.next_blep_sample.ensures, c.next_integrated_blep_sample.ensures, c.rise_time-t.ensures, c.triangle_step-step.ensures) (refl {a = rise_of p.w p.frequency p.previous_pw p.e})

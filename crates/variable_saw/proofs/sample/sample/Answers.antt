@@ -5,20 +5,12 @@ use Rattle.variable_saw.proofs.sample.sample.Goals as goal
 
 pub returns-then-e-pw : goal.returns-then-e-pw
 returns-then-e-pw c =
-    let k = c in
-    let e = k in
-    sample_rises _ _ _ _ _ _ _ e.new-w.ensures e.edge-e.ensures _ k.if-e-pw.true c.rise.ensures c.finish.ensures
+    sample_rises _ _ _ _ _ _ _ c.new-w.ensures c.edge-e.ensures _ c.if-e-pw.true c.rise.ensures c.finish.ensures
 
 pub returns-then-e : goal.returns-then-e
 returns-then-e c =
-    let k = c in
-    let o = k in
-    let e = o in
-    sample_wraps _ _ _ _ _ _ _ e.new-w.ensures e.edge-e.ensures o.if-e-pw.false _ k.if-e.true c.wrap.ensures c.finish-then-e.ensures
+    sample_wraps _ _ _ _ _ _ _ c.new-w.ensures c.edge-e.ensures c.if-e-pw.false _ c.if-e.true c.wrap.ensures c.finish-then-e.ensures
 
 pub returns-else-e : goal.returns-else-e
 returns-else-e c =
-    let k = c in
-    let o = k in
-    let e = o in
-    sample_stays _ _ _ _ _ _ _ e.new-w.ensures e.edge-e.ensures o.if-e-pw.false k.if-e.false c.finish-else-e.ensures
+    sample_stays _ _ _ _ _ _ _ c.new-w.ensures c.edge-e.ensures c.if-e-pw.false c.if-e.false c.finish-else-e.ensures

@@ -8,8 +8,5 @@ use Rattle.variable_shape.proofs.quiet.sample.Goals as goal
 pub returns : goal.returns
 unfolding finish
 returns c =
-    let n = c in
-    let o = n in
-    let m = o in
-    let p = m.args in
-    rw (n.naive_at.ensures p.s.previous_pw, o.output.ensures, m.master_step-master_phase.ensures, c.none.ensures) (sym (sample_quiet p.sync p.phase_output p.s p.steps m.requires))
+    let p = c.args in
+    rw (c.naive_at.ensures p.s.previous_pw, c.output.ensures, c.master_step-master_phase.ensures, c.none.ensures) (sym (sample_quiet p.sync p.phase_output p.s p.steps c.requires))

@@ -7,9 +7,5 @@ use Rattle.variable_shape.proofs.sample.fall.Goals as goal
 pub returns : goal.returns
 unfolding fall_of
 returns c =
-    let n = c in
-    let t = n in
-    let b = t in
-    let s = b in
-    let p = s.args in
-    rw (c.fallen.ensures, s.triangle_step-step.ensures, b.this_blep_sample.ensures, t.this_integrated_blep_sample.ensures, n.next_blep_sample.ensures, c.next_integrated_blep_sample.ensures) (refl {a = fall_of p.w p.e})
+    let p = c.args in
+    rw (c.fallen.ensures, c.triangle_step-step.ensures, c.this_blep_sample.ensures, c.this_integrated_blep_sample.ensures, c.next_blep_sample.ensures, c.next_integrated_blep_sample.ensures) (refl {a = fall_of p.w p.e})

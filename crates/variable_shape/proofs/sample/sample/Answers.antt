@@ -8,6 +8,4 @@ cross_if-e-requires c = start_crossable _ _ _ _ _ _ c.at-w.ensures c.begin-start
 
 pub returns : goal.returns
 returns c =
-    let e = c in
-    let b = e in
-    sample_is _ _ _ _ _ _ _ _ _ _ b.at-w.ensures b.begin-start.ensures e.cross_if-e.ensures c.leave-end.ensures c.after-t.ensures c.finish.ensures
+    sample_is _ _ _ _ _ _ _ _ _ _ c.at-w.ensures c.begin-start.ensures c.cross_if-e.ensures c.leave-end.ensures c.after-t.ensures c.finish.ensures

@@ -7,5 +7,4 @@ use Rattle.variable_shape.proofs.waveform.naive_at.Goals as goal
 pub returns : goal.returns
 unfolding waveform_of naive_of
 returns c previousPw =
-    let q = c in
-    rw (q.max-square_amount.ensures, q.max-triangle_amount.ensures, q.square.ensures, c.triangle_at.ensures) refl
+    rw (c.max-square_amount.ensures, c.max-triangle_amount.ensures, c.square.ensures, c.triangle_at.ensures) refl
