@@ -1,4 +1,6 @@
 // The classic oscillator over lent arrays of 32-bit words, for the face.
+#![tactic(auto)]
+
 ghost use Rattle.std.specs.Prelude.{◌≡◌, cond};
 ghost use Rattle.classic.specs.Shapes.{numbered};
 ghost use Rattle.classic.specs.Block.{as_call};
@@ -80,7 +82,7 @@ pub fn render(
     out: &mut [f32],
     res: &mut [u32; 7],
 ) -> u32
-    ensures* { λ r. ⌜ record { answer = r; words = words.new; result = res.new; samples = out.new } ≡ render_face words.old frequency pw shape out.old ⌝ }
+    ensures { record { answer = result; words = words.new; result = res.new; samples = out.new } ≡ render_face words.old frequency pw shape out.old }
 {
     if words::no_bool(words[4]) {
         *res = words::no_state(out.len());

@@ -1,4 +1,6 @@
 // Job records, 64 bytes each, little-endian: the part of a list that a record is, and what it asks for.
+#![tactic(auto)]
+
 ghost use Rattle.std.specs.Prelude.{◌≡◌};
 ghost use Rattle.jobs.specs.Words.{record_of};
 ghost use Rattle.jobs.specs.Record.{step_count_in, shape_of, saw_of, super_square_of, nes_of, string_of, classic_of, by_kind_of, asked_of, job_of};

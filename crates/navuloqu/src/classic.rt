@@ -20,7 +20,7 @@ pub extern "C" fn navuloqu_3_classic_render(
     out: &mut [f32],
     res: &mut [u32; 7],
 ) -> u32
-    ensures* { λ r. ⌜ record { answer = r; words = words.new; result = res.new; samples = out.new } ≡ render_face words.old frequency pw shape out.old ⌝ }
+    ensures { record { answer = result; words = words.new; result = res.new; samples = out.new } ≡ render_face words.old frequency pw shape out.old }
 {
     classic_face::render(words, frequency, pw, shape, out, res)
 }

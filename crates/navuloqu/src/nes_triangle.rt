@@ -19,7 +19,7 @@ pub extern "C" fn navuloqu_3_nes_triangle_render(
     out: &mut [f32],
     res: &mut [u32; 7],
 ) -> u32
-    ensures* { λ r. ⌜ record { answer = r; words = words.new; result = res.new; samples = out.new } ≡ render_face words.old frequency num_bits out.old ⌝ }
+    ensures { record { answer = result; words = words.new; result = res.new; samples = out.new } ≡ render_face words.old frequency num_bits out.old }
 {
     nes_triangle_face::render(words, frequency, num_bits, out, res)
 }

@@ -20,7 +20,7 @@ pub extern "C" fn navuloqu_3_string_synth_render(
     out: &mut [f32],
     res: &mut [u32; 7],
 ) -> u32
-    ensures* { λ r. ⌜ record { answer = r; words = words.new; result = res.new; samples = out.new } ≡ render_face words.old frequency registration.now gain out.old ⌝ }
+    ensures { record { answer = result; words = words.new; result = res.new; samples = out.new } ≡ render_face words.old frequency registration.now gain out.old }
 {
     string_synth_face::render(words, frequency, registration, gain, out, res)
 }

@@ -20,7 +20,7 @@ pub extern "C" fn navuloqu_3_variable_saw_render(
     out: &mut [f32],
     res: &mut [u32; 7],
 ) -> u32
-    ensures* { λ r. ⌜ record { answer = r; words = words.new; result = res.new; samples = out.new } ≡ render_face words.old frequency pw waveshape out.old ⌝ }
+    ensures { record { answer = result; words = words.new; result = res.new; samples = out.new } ≡ render_face words.old frequency pw waveshape out.old }
 {
     variable_saw_face::render(words, frequency, pw, waveshape, out, res)
 }

@@ -24,7 +24,7 @@ pub extern "C" fn navuloqu_3_variable_shape_render(
     out: &mut [f32],
     res: &mut [u32; 7],
 ) -> u32
-    ensures* { λ r. ⌜ record { answer = r; words = words.new; result = res.new; samples = out.new } ≡ render_face words.old master_frequency frequency pw waveshape phase_modulation sync phase_output out.old ⌝ }
+    ensures { record { answer = result; words = words.new; result = res.new; samples = out.new } ≡ render_face words.old master_frequency frequency pw waveshape phase_modulation sync phase_output out.old }
 {
     variable_shape_face::render(
         words,

@@ -1,4 +1,6 @@
 // The string synth over lent arrays of 32-bit words, for the face.
+#![tactic(auto)]
+
 ghost use Rattle.std.specs.Prelude.{◌≡◌, cond};
 ghost use Rattle.string_synth_face.specs.Words.{state_of, words_of, init_words, render_face};
 
@@ -61,7 +63,7 @@ pub fn render(
     out: &mut [f32],
     res: &mut [u32; 7],
 ) -> u32
-    ensures* { λ r. ⌜ record { answer = r; words = words.new; result = res.new; samples = out.new } ≡ render_face words.old frequency registration.now gain out.old ⌝ }
+    ensures { record { answer = result; words = words.new; result = res.new; samples = out.new } ≡ render_face words.old frequency registration.now gain out.old }
 {
     let r = string_synth::render(state_of(*words), frequency, registration, gain, out);
     let answer = r.answer;

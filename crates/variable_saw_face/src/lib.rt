@@ -1,4 +1,6 @@
 // The variable saw over lent arrays of 32-bit words, for the face.
+#![tactic(auto)]
+
 ghost use Rattle.std.specs.Prelude.{◌≡◌, cond};
 ghost use Rattle.variable_saw_face.specs.Words.{state_of, words_of, init_words, render_face};
 
@@ -59,7 +61,7 @@ pub fn render(
     out: &mut [f32],
     res: &mut [u32; 7],
 ) -> u32
-    ensures* { λ r. ⌜ record { answer = r; words = words.new; result = res.new; samples = out.new } ≡ render_face words.old frequency pw waveshape out.old ⌝ }
+    ensures { record { answer = result; words = words.new; result = res.new; samples = out.new } ≡ render_face words.old frequency pw waveshape out.old }
 {
     if words::no_bool(words[3]) {
         *res = words::no_state(out.len());

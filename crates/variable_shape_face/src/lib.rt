@@ -1,4 +1,6 @@
 // The variable shape over lent arrays of 32-bit words, for the face.
+#![tactic(auto)]
+
 ghost use Rattle.std.specs.Prelude.{◌≡◌, cond, eqb, set};
 ghost use Rattle.variable_shape_face.specs.Words.{state_of, words_of, init_words, render_face, set_face};
 
@@ -69,7 +71,7 @@ pub fn render(
     out: &mut [f32],
     res: &mut [u32; 7],
 ) -> u32
-    ensures* { λ r. ⌜ record { answer = r; words = words.new; result = res.new; samples = out.new } ≡ render_face words.old master_frequency frequency pw waveshape phase_modulation sync phase_output out.old ⌝ }
+    ensures { record { answer = result; words = words.new; result = res.new; samples = out.new } ≡ render_face words.old master_frequency frequency pw waveshape phase_modulation sync phase_output out.old }
 {
     if words::no_bool(words[4]) {
         *res = words::no_state(out.len());

@@ -1,0 +1,27 @@
+-- `jobs::classic` meets its contract: flags that name no shape are refused. Assumes nothing.
+use mathlib.Core.Path.{◌≡◌, sym, ap, ◌∙◌}
+use Prim.Native.Nat.{ℕ}
+use Rattle.classic.specs.Shapes.{numbered}
+use Rattle.classic.specs.declared.shapes.Named.{Named}
+use Rattle.jobs.specs.Record.{classic_of}
+use borrow.Author.Rules.{rules}
+use Rattle.jobs.proofs.classic.Goals as goal
+
+-- what the flags name, once they are read, widened and looked up
+flags_name : {flags byte number : ℕ} {named m : Named} → byte ≡ flags → number ≡ byte → named ≡ numbered number → named ≡ m → numbered flags ≡ m
+flags_name read wide looked m = sym (ap numbered (wide ∙ read)) ∙ sym looked ∙ m
+
+pub returns-in-NoShape : goal.returns-in-NoShape
+unfolding classic_of
+returns-in-NoShape c =
+    let n = c in
+    let w = n in
+    rw (flags_name w.byte_at.ensures w.wide.ensures n.shape_of-named.ensures c.in-NoShape.is)
+
+pub returns-in-Shape : goal.returns-in-Shape
+unfolding classic_of
+returns-in-Shape c =
+    let g = c in
+    let n = g in
+    let w = n in
+    rw (c.Float-at.ensures, c.float_at-in-Shape.ensures, flags_name w.byte_at.ensures w.wide.ensures n.shape_of-named.ensures g.in-Shape.is)

@@ -1,0 +1,18 @@
+-- `jobs::nes` meets its contract: a step count of another form is refused. Assumes nothing.
+use mathlib.Core.Path.{refl, sym, ap, ◌∙◌}
+use Rattle.jobs.proofs.Plays.{plays, refuses}
+use Rattle.jobs.specs.Record.{step_count_in, nes_of}
+use borrow.Author.Rules.{rules}
+use Rattle.jobs.proofs.nes.Goals as goal
+
+pub returns-then-step_count_in : goal.returns-then-step_count_in
+unfolding nes_of
+returns-then-step_count_in c =
+    let t = c in
+    plays (sym (ap step_count_in t.word_at-steps.ensures) ∙ sym t.step_count_in.ensures ∙ c.if-step_count_in.true) (rw (c.Float-at.ensures, t.word_at-steps.ensures) refl)
+
+pub returns-else-step_count_in : goal.returns-else-step_count_in
+unfolding nes_of
+returns-else-step_count_in c =
+    let t = c in
+    refuses _ (sym (ap step_count_in t.word_at-steps.ensures) ∙ sym t.step_count_in.ensures ∙ c.if-step_count_in.false)

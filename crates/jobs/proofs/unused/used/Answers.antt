@@ -1,0 +1,8 @@
+-- `jobs::unused::used` meets its contract: the rows are the definition's. Assumes nothing.
+use Rattle.jobs.specs.Fields.{byte_used}
+use borrow.Author.Rules.{rules}
+use Rattle.jobs.proofs.unused.used.Goals as goal
+
+pub returns : goal.returns
+unfolding byte_used
+returns c = cc

@@ -1,0 +1,25 @@
+-- `jobs::unused::zero` meets its contract. The loop's invariant: what is asked of the whole is asked of the bytes from `i` on. Assumes nothing.
+use Prim.Native.Nat.{◌-◌}
+use mathlib.Core.Path.{◌≡◌, refl, sym, ◌∙◌}
+use borrow.Author.Rules.{rules}
+use borrow.Author.Tests.{not-true, not-false}
+use lib.ListN.{length, drop}
+use Rattle.jobs.specs.Fields.{unused_zero, unused_zero_from}
+use Rattle.jobs.proofs.ByteByByte.{unused_step, unused_end}
+use Rattle.jobs.proofs.unused.zero.Goals as goal
+
+pub loop-i-init : goal.loop-i-init
+loop-i-init c = refl
+
+pub returns-then-not-fine : goal.returns-then-not-fine
+returns-then-not-fine c =
+    let f = c in
+    sym (f.loop-i.invariant ∙ unused_step _ _ _ f.loop-i-test.true ∙ rw (sym f.fine.ensures ∙ not-true _ c.if-not-fine.true-raw))
+
+pub loop-i-preserved : goal.loop-i-preserved
+loop-i-preserved c =
+    let f = c in
+    f.loop-i.invariant ∙ unused_step _ _ _ f.loop-i-test.true ∙ rw (sym f.fine.ensures ∙ not-false _ c.if-not-fine.false-raw)
+
+pub returns : goal.returns
+returns c = sym (c.loop-i.invariant ∙ unused_end _ _ _ c.loop-i-test.false)

@@ -1,0 +1,8 @@
+-- `variable_saw_face::words_of` meets its contract: field by field. Assumes nothing.
+use borrow.Author.Rules.{rules}
+use Rattle.variable_saw_face.specs.Words.{words_of}
+use Rattle.variable_saw_face.proofs.words_of.Goals as goal
+
+pub returns : goal.returns
+unfolding words_of
+returns c = cc
