@@ -1,4 +1,6 @@
 // A stem: samples become the bytes of a WAV file, mono, 16 bits, in a lent buffer.
+#![tactic(auto)]
+
 ghost use Rattle.std.specs.Prelude.{◌≡◌, ◌++◌, ◌+◌, ◌*◌, ◌≤◌, length, drop};
 ghost use Rattle.std.specs.Float.Ieee.{is_nan};
 ghost use Rattle.wave.specs.Form.{samples_of, stem_of};
@@ -83,7 +85,7 @@ fn put(rate: u32, samples: &[f32], out: &mut [u8])
     ensures { out.new ≡ stem_of rate samples.now ++ drop (44 + 2 * length samples.now) out.old }
 {
     let header = form::header(rate, 2 * samples.len() as u32);
-    bytes::copy(&header, out);
+    out[0..HEADER].copy_from_slice(&header);
     put_samples(samples, &mut out[HEADER..]);
 }
 

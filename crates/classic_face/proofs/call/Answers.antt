@@ -7,14 +7,8 @@ use Rattle.classic_face.proofs.call.Goals as goal
 
 pub returns-in-Shape : goal.returns-in-Shape
 returns-in-Shape c =
-    let r = c in
-    let n = r in
-    let s = n in
-    rw (sym s.shape_of.ensures ∙ n.in-Shape.is) r.render.ensures
+    rw (sym c.shape_of.ensures ∙ c.in-Shape.is) c.render.ensures
 
 pub returns-in-NoShape : goal.returns-in-NoShape
 returns-in-NoShape c =
-    let r = c in
-    let t = r in
-    let s = t in
-    rw (sym s.shape_of.ensures ∙ t.in-NoShape.is) (r.render-in-NoShape.ensures ∙ sym (called NoShape _ s.args.frequency _ _))
+    rw (sym c.shape_of.ensures ∙ c.in-NoShape.is) (c.render-in-NoShape.ensures ∙ sym (called NoShape _ c.args.frequency _ _))

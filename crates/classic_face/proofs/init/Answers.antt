@@ -5,7 +5,4 @@ use Rattle.classic_face.proofs.init.Goals as goal
 
 pub returns : goal.returns
 returns c =
-    let w = c in
-    let n = w in
-    let r = n in
-    start_is _ (rw r.state_of.ensures at r.init-r.ensures) n.number-number.ensures w.words_of.ensures c.store.ensures
+    start_is _ (rw c.state_of.ensures at c.init-r.ensures) c.number-number.ensures c.words_of.ensures c.store.ensures

@@ -1,4 +1,5 @@
 -- `jobs::by_kind` meets its contract: each kind has its case, and every other is refused. Assumes nothing.
+use native.Mathlib.Omega.{arith}
 use borrow.Author.Tests.{ne_eqb}
 use Rattle.jobs.specs.Record.{by_kind_of}
 use borrow.Author.Rules.{rules}
@@ -30,10 +31,10 @@ returns-in-6 c = rw c.in-6.is c.classic.ensures
 
 pub returns-in-0 : goal.returns-in-0
 unfolding by_kind_of
-returns-in-0 c = rw c.in-0.keys7
+returns-in-0 c = search rules
 
 pub returns-in-0-2 : goal.returns-in-0-2
 unfolding by_kind_of
 returns-in-0-2 c =
-    let r = c.in-0.rest in
-    rw (ne_eqb _ 1 r.0.0.0.0.0.0.1, ne_eqb _ 2 r.0.0.0.0.0.1, ne_eqb _ 3 r.0.0.0.0.1, ne_eqb _ 4 r.0.0.0.1, ne_eqb _ 5 r.0.0.1, ne_eqb _ 6 r.0.1)
+    let k = c.args.kind in
+    rw (ne_eqb k 1 (λ h. omega arith), ne_eqb k 2 (λ h. omega arith), ne_eqb k 3 (λ h. omega arith), ne_eqb k 4 (λ h. omega arith), ne_eqb k 5 (λ h. omega arith), ne_eqb k 6 (λ h. omega arith))

@@ -14,14 +14,9 @@ flags_name read wide looked m = sym (ap numbered (wide ∙ read)) ∙ sym looked
 pub returns-in-NoShape : goal.returns-in-NoShape
 unfolding classic_of
 returns-in-NoShape c =
-    let n = c in
-    let w = n in
-    rw (flags_name w.byte_at.ensures w.wide.ensures n.shape_of-named.ensures c.in-NoShape.is)
+    rw (flags_name c.byte_at.ensures c.wide.ensures c.shape_of-named.ensures c.in-NoShape.is)
 
 pub returns-in-Shape : goal.returns-in-Shape
 unfolding classic_of
 returns-in-Shape c =
-    let g = c in
-    let n = g in
-    let w = n in
-    rw (c.Float-at.ensures, c.float_at-in-Shape.ensures, flags_name w.byte_at.ensures w.wide.ensures n.shape_of-named.ensures g.in-Shape.is)
+    rw (c.float_at.ensures, c.float_at-in-Shape.ensures, flags_name c.byte_at.ensures c.wide.ensures c.shape_of-named.ensures c.in-Shape.is)

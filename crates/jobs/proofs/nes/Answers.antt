@@ -8,11 +8,9 @@ use Rattle.jobs.proofs.nes.Goals as goal
 pub returns-then-step_count_in : goal.returns-then-step_count_in
 unfolding nes_of
 returns-then-step_count_in c =
-    let t = c in
-    plays (sym (ap step_count_in t.word_at-steps.ensures) ∙ sym t.step_count_in.ensures ∙ c.if-step_count_in.true) (rw (c.Float-at.ensures, t.word_at-steps.ensures) refl)
+    plays (sym (ap step_count_in c.word_at-steps.ensures) ∙ sym c.step_count_in.ensures ∙ c.if-step_count_in.true) (rw (c.float_at.ensures, c.word_at-steps.ensures) refl)
 
 pub returns-else-step_count_in : goal.returns-else-step_count_in
 unfolding nes_of
 returns-else-step_count_in c =
-    let t = c in
-    refuses _ (sym (ap step_count_in t.word_at-steps.ensures) ∙ sym t.step_count_in.ensures ∙ c.if-step_count_in.false)
+    refuses _ (sym (ap step_count_in c.word_at-steps.ensures) ∙ sym c.step_count_in.ensures ∙ c.if-step_count_in.false)

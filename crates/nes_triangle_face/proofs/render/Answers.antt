@@ -6,16 +6,9 @@ use Rattle.nes_triangle_face.proofs.render.Goals as goal
 
 pub returns-then-no_bool : goal.returns-then-no_bool
 returns-then-no_bool c =
-    let n = c in
-    rw (n.no_state.ensures, sym n.no_bool.ensures ∙ n.if-no_bool.true)
+    rw (c.no_state.ensures, sym c.no_bool.ensures ∙ c.if-no_bool.true)
 
 pub returns : goal.returns
 returns c =
-    let p = c in
-    let n = p in
-    let q = n in
-    let r = q in
-    let s = r in
-    let i = s in
-    rw (sym i.no_bool.ensures ∙ i.if-no_bool.false)
-    (face_is _ _ (rw s.state_of.ensures at r.render-r.ensures) n.stores.ensures p.words_of.ensures p.store.ensures q.result_of.ensures)
+    rw (sym c.no_bool.ensures ∙ c.if-no_bool.false)
+    (face_is _ _ (rw c.state_of.ensures at c.render-r.ensures) c.stores.ensures c.words_of.ensures c.store.ensures c.result_of.ensures)

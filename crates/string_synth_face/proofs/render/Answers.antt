@@ -5,9 +5,4 @@ use Rattle.string_synth_face.proofs.render.Goals as goal
 
 pub returns : goal.returns
 returns c =
-    let p = c in
-    let n = p in
-    let q = n in
-    let r = q in
-    let s = r in
-    face_is _ _ (rw s.state_of.ensures at r.render-r.ensures) n.stores.ensures p.words_of.ensures p.store.ensures q.result_of.ensures
+    face_is _ _ (rw c.state_of.ensures at c.render-r.ensures) c.stores.ensures c.words_of.ensures c.store.ensures c.result_of.ensures

@@ -5,7 +5,4 @@ use Rattle.variable_shape_face.proofs.set_master_phase.Goals as goal
 
 pub returns : goal.returns
 returns c =
-    let t = c in
-    let n = t in
-    let r = n in
-    set_is _ (rw r.state_of.ensures at r.set_master_phase-r.ensures) n.number-number.ensures t.to_bits.ensures c.store_first.ensures
+    set_is _ (rw c.state_of.ensures at c.set_master_phase-r.ensures) c.number-number.ensures c.to_bits.ensures c.store_first.ensures

@@ -13,13 +13,11 @@ loop-i-init c = refl
 
 pub returns-then-not-fine : goal.returns-then-not-fine
 returns-then-not-fine c =
-    let f = c in
-    sym (f.loop-i.invariant ∙ unused_step _ _ _ f.loop-i-test.true ∙ rw (sym f.fine.ensures ∙ not-true _ c.if-not-fine.true-raw))
+    sym (c.loop-i.invariant ∙ unused_step _ _ _ c.loop-i-test.true ∙ rw (sym c.fine.ensures ∙ not-true _ c.if-not-fine.true-raw))
 
 pub loop-i-preserved : goal.loop-i-preserved
 loop-i-preserved c =
-    let f = c in
-    f.loop-i.invariant ∙ unused_step _ _ _ f.loop-i-test.true ∙ rw (sym f.fine.ensures ∙ not-false _ c.if-not-fine.false-raw)
+    c.loop-i.invariant ∙ unused_step _ _ _ c.loop-i-test.true ∙ rw (sym c.fine.ensures ∙ not-false _ c.if-not-fine.false-raw)
 
 pub returns : goal.returns
 returns c = sym (c.loop-i.invariant ∙ unused_end _ _ _ c.loop-i-test.false)

@@ -6,8 +6,7 @@ use native.Mathlib.Omega.{arith}
 use lib.Dec.{lit<}
 use lib.Pow.{shl_exact, pow_pos, pow_mono}
 use borrow.Author.Rules.{rules}
-use Rattle.wave.proofs.pcm.power.Statement.{statement}
-use Rattle.wave.proofs.pcm.power.Tie as tie
+use Rattle.wave.proofs.pcm.power.Goals as goal
 
 says : (s : ℕ) → s ≤ 40 → (1 * 2 ^ s % 2 ^ 64 ≡ 2 ^ s) × (0 < 1 * 2 ^ s % 2 ^ 64) × (1 * 2 ^ s % 2 ^ 64 ≤ 1099511627776)
 says s h = rw exact (refl, pow_pos s, pow_mono {i = s} {j = 40} h)
@@ -18,8 +17,5 @@ says s h = rw exact (refl, pow_pos s, pow_mono {i = s} {j = 40} h)
     exact : 1 * 2 ^ s % 2 ^ 64 ≡ 2 ^ s
     exact = shl_exact {a = 1} 1 s 64 (lit< tt) room ∙ one-mul (2 ^ s)
 
-returns : tie.Need-returns
+pub returns : goal.returns
 returns c = says c.args.s c.requires
-
-pub power_spec : {M : Type 1} → statement M
-power_spec = tie.close (tie.spec (λ c. search rules) returns)

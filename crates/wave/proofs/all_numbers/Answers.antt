@@ -1,0 +1,24 @@
+-- `wave::all_numbers` meets its contract. The loop's invariant: what is asked of the whole is asked of the samples from `i` on. Assumes nothing.
+use Prim.Native.Nat.{◌-◌}
+use mathlib.Core.Path.{◌≡◌, refl, sym, ◌∙◌}
+use borrow.Author.Rules.{rules}
+use lib.ListN.{length, drop}
+use Rattle.wave.specs.Write.{all_numbers}
+use Rattle.wave.proofs.Numbers.{numbers_stop, numbers_more, numbers_end}
+use Rattle.wave.proofs.all_numbers.Goals as goal
+
+pub returns-then-is_nan : goal.returns-then-is_nan
+returns-then-is_nan c =
+    let f = c in
+    sym (f.loop-i.invariant ∙ numbers_stop _ _ _ _ f.loop-i-test.true f.is_nan.ensures c.if-is_nan.true)
+
+pub loop-i-preserved : goal.loop-i-preserved
+loop-i-preserved c =
+    let f = c in
+    f.loop-i.invariant ∙ numbers_more _ _ _ _ f.loop-i-test.true f.is_nan.ensures c.if-is_nan.false
+
+pub loop-i-init : goal.loop-i-init
+loop-i-init c = refl
+
+pub returns : goal.returns
+returns c = sym (c.loop-i.invariant ∙ numbers_end _ _ c.loop-i-test.false)

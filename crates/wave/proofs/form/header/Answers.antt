@@ -1,0 +1,12 @@
+-- `wave::form::header` meets its contract: four numbers in the places that are left for them. Assumes nothing.
+use borrow.Author.Rules.{rules}
+use Rattle.wave.specs.Form.{low_first, header_of}
+use Rattle.wave.proofs.form.header.Goals as goal
+
+pub returns : goal.returns
+unfolding header_of low_first
+returns c =
+    let third = c in
+    let second = third in
+    let first = second in
+    rw (c.put_dword-4.ensures, third.put_dword-3.ensures, second.put_dword-2.ensures, first.put_dword.ensures)

@@ -1,0 +1,18 @@
+-- `wave::pcm::below_one` meets its contract: the digits over a power of two are rounded. Assumes nothing.
+use mathlib.Core.Path.{refl, sym}
+use native.Mathlib.Omega.{arith}
+use borrow.Author.Rules.{rules}
+use Rattle.wave.proofs.Bits.{bits_low, below}
+use Rattle.wave.proofs.pcm.below_one.Goals as goal
+
+pub returns-then-field-lt110 : goal.returns-then-field-lt110
+returns-then-field-lt110 c = (sym (bits_low c.args.bits (omega arith) c.if-field-lt110.true), omega arith)
+
+pub returns : goal.returns
+returns c =
+    let p = c in
+    let e = p in
+    below e.args.bits _ _ _ e.requires e.if-field-lt110.false refl p.power.ensures.0 c.round.ensures
+
+pub overflow_cast-result : goal.overflow_cast-result
+overflow_cast-result c = omega (arith, (returns-2 c).1)

@@ -1,0 +1,17 @@
+-- `wave::pcm::held` meets its contract: the sign is apart from the size. Assumes nothing.
+use mathlib.Core.Path.{sym, subst}
+use native.Mathlib.Omega.{arith}
+use lib.Dec.{T}
+use borrow.Author.Rules.{rules}
+use Rattle.wave.proofs.Held.{held_plus, held_minus}
+use Rattle.wave.proofs.pcm.held.Goals as goal
+
+pub returns-then-bits-lt2147483648 : goal.returns-then-bits-lt2147483648
+returns-then-bits-lt2147483648 c =
+    let b = c in
+    held_plus b.args.x (subst T (sym b.well_formed.0.1) tt) _ b.to_bits-bits.ensures _ c.size.ensures.0
+
+pub returns : goal.returns
+returns c =
+    let b = c in
+    held_minus b.args.x (subst T (sym b.well_formed.0.1) tt) _ b.to_bits-bits.ensures _ c.if-bits-lt2147483648.false (omega arith) c.size-2.ensures.0 c.size-2.ensures.1

@@ -1,0 +1,27 @@
+-- `wave::put_samples` meets its contract: the loop puts sample by sample. The measure is how many are left. Assumes nothing.
+use mathlib.Core.Path.{ap, ◌∙◌}
+use Prim.Native.Nat.{ℕ, ◌-◌, ◌/◌, ◌%◌}
+use borrow.Author.Rules.{rules}
+use native.Mathlib.Omega.{arith}
+use lib.ListN.{length, length-set}
+use Rattle.wave.proofs.Putting.{Put, put_start, put_more, put_end}
+use Rattle.wave.proofs.put_samples.Goals as goal
+
+pub loop-i-init : goal.loop-i-init
+loop-i-init c = put_start _ _ c.requires.1
+
+pub loop-i-preserved : goal.loop-i-preserved
+loop-i-preserved c =
+    let l = c in
+    let h = l in
+    let t = h in
+    put_more _ _ _ _ t.loop-i.invariant _ _ _ t.loop-i-test.true (l.low.ensures ∙ ap (λ (v : ℕ). v % 256) h.held-held.ensures)
+    (c.low-in-loop-i.ensures ∙ ap (λ (v : ℕ). v / 256 % 256) h.held-held.ensures)
+
+pub bounds-out-i-in-loop-i : goal.bounds-out-i-in-loop-i
+bounds-out-i-in-loop-i c =
+    let p = c in
+    simp length-set (omega (arith, p.loop-i.invariant.long, p.loop-i.invariant.room, p.loop-i-test.true))
+
+pub returns : goal.returns
+returns c = put_end _ _ _ _ c.loop-i.invariant c.loop-i-test.false
