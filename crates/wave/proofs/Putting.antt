@@ -104,6 +104,10 @@ header_long rate size = refl
 pub stem_long : (rate : ℕ) (xs : List Float) → length (stem_of rate xs) ≡ 44 + 2 * length xs
 stem_long rate xs = length-append (header_of rate (2 * length xs)) (samples_of xs) ∙ rw (header_long rate (2 * length xs), samples_long xs)
 
+-- the header stands at the front, and the rest as it was
+pub headed : (x h d : List ℕ) → x ≡ h → length h ≡ 44 → x ++ drop 44 d ≡ take (length h) h ++ drop (length h) d
+headed x h d e l = rw (e, take-length h, l)
+
 -- a stem in a buffer
 pub whole_stem : (rate : ℕ) (xs : List Float) (d h d' e : List ℕ) → h ≡ header_of rate (2 * length xs) → 44 + 2 * length xs ≤ length d → d' ≡ take (length h) h ++ drop (length h) d
     → e ≡ samples_of xs ++ drop (2 * length xs) (take (length d' - 44) (drop 44 d'))

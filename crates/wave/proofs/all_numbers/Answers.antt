@@ -9,13 +9,11 @@ use Rattle.wave.proofs.all_numbers.Goals as goal
 
 pub returns-then-is_nan : goal.returns-then-is_nan
 returns-then-is_nan c =
-    let f = c in
-    sym (f.loop-i.invariant ∙ numbers_stop _ _ _ _ f.loop-i-test.true f.is_nan.ensures c.if-is_nan.true)
+    sym (c.loop-i.invariant ∙ numbers_stop _ _ _ _ c.loop-i-test.true c.is_nan.ensures c.if-is_nan.true)
 
 pub loop-i-preserved : goal.loop-i-preserved
 loop-i-preserved c =
-    let f = c in
-    f.loop-i.invariant ∙ numbers_more _ _ _ _ f.loop-i-test.true f.is_nan.ensures c.if-is_nan.false
+    c.loop-i.invariant ∙ numbers_more _ _ _ _ c.loop-i-test.true c.is_nan.ensures c.if-is_nan.false
 
 pub loop-i-init : goal.loop-i-init
 loop-i-init c = refl

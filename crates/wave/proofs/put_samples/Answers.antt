@@ -12,16 +12,12 @@ loop-i-init c = put_start _ _ c.requires.1
 
 pub loop-i-preserved : goal.loop-i-preserved
 loop-i-preserved c =
-    let l = c in
-    let h = l in
-    let t = h in
-    put_more _ _ _ _ t.loop-i.invariant _ _ _ t.loop-i-test.true (l.low.ensures ∙ ap (λ (v : ℕ). v % 256) h.held-held.ensures)
-    (c.low-in-loop-i.ensures ∙ ap (λ (v : ℕ). v / 256 % 256) h.held-held.ensures)
+    put_more _ _ _ _ c.loop-i.invariant _ _ _ c.loop-i-test.true (c.low.ensures ∙ ap (λ (v : ℕ). v % 256) c.held-held.ensures)
+    (c.low-in-loop-i.ensures ∙ ap (λ (v : ℕ). v / 256 % 256) c.held-held.ensures)
 
 pub bounds-out-i-in-loop-i : goal.bounds-out-i-in-loop-i
 bounds-out-i-in-loop-i c =
-    let p = c in
-    simp length-set (omega (arith, p.loop-i.invariant.long, p.loop-i.invariant.room, p.loop-i-test.true))
+    simp length-set (omega (arith, c.loop-i.invariant.long, c.loop-i.invariant.room, c.loop-i-test.true))
 
 pub returns : goal.returns
 returns c = put_end _ _ _ _ c.loop-i.invariant c.loop-i-test.false

@@ -2,7 +2,6 @@
 use Prim.Native.Nat.{◌-◌}
 use mathlib.Core.Path.{◌≡◌, refl, sym, ◌∙◌}
 use borrow.Author.Rules.{rules}
-use borrow.Author.Tests.{not-true, not-false}
 use lib.ListN.{length, drop}
 use Rattle.jobs.specs.Fields.{unused_zero, unused_zero_from}
 use Rattle.jobs.proofs.ByteByByte.{unused_step, unused_end}
@@ -13,11 +12,11 @@ loop-i-init c = refl
 
 pub returns-then-not-fine : goal.returns-then-not-fine
 returns-then-not-fine c =
-    sym (c.loop-i.invariant ∙ unused_step _ _ _ c.loop-i-test.true ∙ rw (sym c.fine.ensures ∙ not-true _ c.if-not-fine.true-raw))
+    sym (c.loop-i.invariant ∙ unused_step _ _ _ c.loop-i-test.true ∙ rw (sym c.fine.ensures ∙ c.if-not-fine.true))
 
 pub loop-i-preserved : goal.loop-i-preserved
 loop-i-preserved c =
-    c.loop-i.invariant ∙ unused_step _ _ _ c.loop-i-test.true ∙ rw (sym c.fine.ensures ∙ not-false _ c.if-not-fine.false-raw)
+    c.loop-i.invariant ∙ unused_step _ _ _ c.loop-i-test.true ∙ rw (sym c.fine.ensures ∙ c.if-not-fine.false)
 
 pub returns : goal.returns
 returns c = sym (c.loop-i.invariant ∙ unused_end _ _ _ c.loop-i-test.false)

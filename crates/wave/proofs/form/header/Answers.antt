@@ -6,7 +6,4 @@ use Rattle.wave.proofs.form.header.Goals as goal
 pub returns : goal.returns
 unfolding header_of low_first
 returns c =
-    let third = c in
-    let second = third in
-    let first = second in
-    rw (c.put_dword-4.ensures, third.put_dword-3.ensures, second.put_dword-2.ensures, first.put_dword.ensures)
+    rw (c.put_dword-4.ensures, c.put_dword-3.ensures, c.put_dword-2.ensures, c.put_dword.ensures)

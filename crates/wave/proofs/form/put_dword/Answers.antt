@@ -5,6 +5,4 @@ use Rattle.wave.proofs.form.put_dword.Goals as goal
 
 pub returns : goal.returns
 returns c =
-    let third = c in
-    let second = third in
-    dword_put _ _ _ _ _ _ _ second.low.ensures second.low-2.ensures third.low-3.ensures c.low-4.ensures
+    dword_put _ _ _ _ _ _ _ c.low.ensures c.low-2.ensures c.low-3.ensures c.low-4.ensures

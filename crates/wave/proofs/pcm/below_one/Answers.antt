@@ -10,9 +10,7 @@ returns-then-field-lt110 c = (sym (bits_low c.args.bits (omega arith) c.if-field
 
 pub returns : goal.returns
 returns c =
-    let p = c in
-    let e = p in
-    below e.args.bits _ _ _ e.requires e.if-field-lt110.false refl p.power.ensures.0 c.round.ensures
+    below c.args.bits _ _ _ c.requires c.if-field-lt110.false refl c.power.ensures.0 c.round.ensures
 
 pub overflow_cast-result : goal.overflow_cast-result
-overflow_cast-result c = omega (arith, (returns-2 c).1)
+overflow_cast-result c = omega (arith, (returns c).1)

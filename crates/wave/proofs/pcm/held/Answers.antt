@@ -8,10 +8,8 @@ use Rattle.wave.proofs.pcm.held.Goals as goal
 
 pub returns-then-bits-lt2147483648 : goal.returns-then-bits-lt2147483648
 returns-then-bits-lt2147483648 c =
-    let b = c in
-    held_plus b.args.x (subst T (sym b.well_formed.0.1) tt) _ b.to_bits-bits.ensures _ c.size.ensures.0
+    held_plus c.args.x (subst T (sym c.well_formed.0.1) tt) _ c.to_bits-bits.ensures _ c.size.ensures.0
 
 pub returns : goal.returns
 returns c =
-    let b = c in
-    held_minus b.args.x (subst T (sym b.well_formed.0.1) tt) _ b.to_bits-bits.ensures _ c.if-bits-lt2147483648.false (omega arith) c.size-2.ensures.0 c.size-2.ensures.1
+    held_minus c.args.x (subst T (sym c.well_formed.0.1) tt) _ c.to_bits-bits.ensures _ c.if-bits-lt2147483648.false (omega arith) c.size-2.ensures.0 c.size-2.ensures.1
