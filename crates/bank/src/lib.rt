@@ -1,4 +1,6 @@
 // One state of each kind, and what one record makes of them: its outcome, and its samples in a lent buffer.
+#![tactic(auto)]
+
 ghost use Rattle.std.specs.Prelude.{◌≡◌, ◌++◌, ◌≤◌, length, drop};
 ghost use Rattle.classic.specs.State.{initial_state};
 ghost use Rattle.bank.specs.Bank.{sample_rate, init_bank, settings_played, silence};

@@ -100,6 +100,7 @@ module _ (s : State) (frequency pw : Float) (shape : OscillatorShape) (xs : List
   drifting (refused (here h)) e = absurd (omega (arith, e))
   drifting (refused (later g (here h))) e = absurd (omega (arith, e))
   drifting (refused (later f (later g (here h)))) e = absurd (omega (arith, e))
+  drifting (refused {k = k} (later f (later g (later _ x)))) e = elim x [ ]
   drifting (drifted p h) e = h
   drifting (answered p h) e = absurd (omega (arith, e))
 

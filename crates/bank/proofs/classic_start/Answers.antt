@@ -6,16 +6,12 @@ use Rattle.classic.specs.declared.State.{State}
 use Rattle.classic.specs.State.{initial_state}
 use Rattle.bank.specs.Bank.{sample_rate}
 use borrow.Author.Rules.{rules}
-use Rattle.bank.proofs.classic_start.Statement.{statement}
-use Rattle.bank.proofs.classic_start.Tie as tie
+use Rattle.bank.proofs.classic_start.Goals as goal
 
 -- 48,000 is at least 8,000 and at most 384,000, whatever state is given
 answered : (s : State) → (started_at s sample_rate).state ≡ initial_state sample_rate
 unfolding lt le neg of_bits
 answered s = refl
 
-returns : tie.Need-returns
-returns c = ap (λ (x : Start). x.state) c.before.init.ensures ∙ answered _
-
-pub classic_start_spec : {M : Type 1} → statement M
-classic_start_spec = tie.close (tie.spec (λ c κs. search rules) (λ c κs. search rules) returns)
+pub returns : goal.returns
+returns c = ap (λ (x : Start). x.state) c.init-started.ensures ∙ answered _
