@@ -1,4 +1,6 @@
 // A job list becomes one line of text for each record, in a lent buffer.
+#![tactic(auto)]
+
 ghost use Rattle.std.specs.Prelude.{◌≡◌, ◌≤◌, length};
 ghost use Rattle.render.specs.Lists.{records_from, lines_of, text_of, answer_if, written, render_of, count_of, handed_back};
 ghost use Rattle.bank.specs.Bank.{record_played};
