@@ -1,4 +1,6 @@
 // The stem of a job list: the samples of all records answered Done, laid end to end, as a WAV in a lent buffer.
+#![tactic(auto)]
+
 ghost use Rattle.std.specs.Prelude.{◌≡◌, ◌+◌, ◌*◌, ◌≤◌, ◌<◌, length};
 ghost use Rattle.jobs.specs.Words.{word_at};
 ghost use Rattle.stems.specs.Compose.{is_input, sound_in, written, compose_of, number_of, count_of, handed_back};

@@ -1,0 +1,6 @@
+-- `navuloqu::stems::navuloqu_3_wave_write` meets its contract: `write`'s, with the answer's number. Assumes nothing.
+use borrow.Author.Rules.{rules}
+use Rattle.navuloqu.proofs.stems.navuloqu_3_wave_write.Goals as goal
+
+pub returns : goal.returns
+returns c = rw c.number.ensures c.write.ensures

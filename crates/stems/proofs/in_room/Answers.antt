@@ -1,0 +1,11 @@
+-- `stems::in_room` meets its contract: the samples that were laid stand for the sound. Assumes nothing.
+use mathlib.Core.Path.{◌∙◌}
+use borrow.Author.Rules.{rules}
+use Rattle.stems.proofs.Ways.{laid_written}
+use Rattle.stems.proofs.in_room.Goals as goal
+
+pub returns : goal.returns
+returns c =
+    let w = c in
+    let l = w in
+    w.write.ensures ∙ laid_written _ _ _ _ _ l.lay-n.ensures
