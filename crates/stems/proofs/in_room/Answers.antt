@@ -6,6 +6,4 @@ use Rattle.stems.proofs.in_room.Goals as goal
 
 pub returns : goal.returns
 returns c =
-    let w = c in
-    let l = w in
-    w.write.ensures ∙ laid_written _ _ _ _ _ l.lay-n.ensures
+    c.write.ensures ∙ laid_written _ _ _ _ _ c.lay-n.ensures

@@ -10,6 +10,5 @@ returns-then-input-lt4 c = sym (short_input c.args.input.now c.if-input-lt4.true
 
 pub returns : goal.returns
 returns c =
-    let e = c in
-    let input = e.args.input.now in
-    c.is_job_list.ensures ∙ ap is_job_list (rest_whole input 4) ∙ sym (long_input input e.if-input-lt4.false)
+    let input = c.args.input.now in
+    c.is_job_list.ensures ∙ ap is_job_list (rest_whole input 4) ∙ sym (long_input input c.if-input-lt4.false)

@@ -37,9 +37,7 @@ left-at-requires c = tt
 
 pub loop-k-preserved : goal.loop-k-preserved
 loop-k-preserved c =
-    let p = c in
-    let r = p in
-    laying_more _ _ _ _ _ _ _ _ r.loop-k.invariant _ _ _ _ r.loop-k-test.true r.«record».ensures p.play-r.ensures c.left-at.ensures
+    laying_more _ _ _ _ _ _ _ _ c.loop-k.invariant _ _ _ _ c.loop-k-test.true c.record-part.ensures c.play-r.ensures c.left-at.ensures
 
 pub overflow_add-at : goal.overflow_add-at
 overflow_add-at c = omega (arith, (loop-k-preserved c).short)
