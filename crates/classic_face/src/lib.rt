@@ -53,7 +53,7 @@ fn store(words: &mut [u32; 9], stored: bool, after: [u32; 9])
 
 // At a sample rate in its range the words are those of the initial state, whatever they were; at any other they stay.
 pub fn init(words: &mut [u32; 9], sample_rate: f32) -> u32
-    ensures { record { words = words.exit.now; number = result } ≡ init_face words.entry.now sample_rate }
+    ensures { record { words = words.new; number = result } ≡ init_face words.old sample_rate }
 {
     let r = classic::init(state_of(*words), sample_rate);
     let answer = r.answer;

@@ -2,17 +2,15 @@
 ghost use Rattle.std.specs.Prelude.{◌≡◌};
 ghost use Rattle.classic_face.specs.Words.{init_face, render_face};
 
-// Passed on, as all below: an archive exports the functions of its own crate alone.
-#[unsafe(no_mangle)]
-pub extern "C" fn navuloqu_3_classic_init(words: &mut [u32; 9], sample_rate: f32) -> u32
-    ensures { record { words = words.exit.now; number = result } ≡ init_face words.entry.now sample_rate }
+// Passed on, as all below.
+pub fn navuloqu_3_classic_init(words: &mut [u32; 9], sample_rate: f32) -> u32
+    ensures { record { words = words.new; number = result } ≡ init_face words.old sample_rate }
 {
     classic_face::init(words, sample_rate)
 }
 
 // A block.
-#[unsafe(no_mangle)]
-pub extern "C" fn navuloqu_3_classic_render(
+pub fn navuloqu_3_classic_render(
     words: &mut [u32; 9],
     frequency: f32,
     pw: f32,

@@ -1,6 +1,5 @@
 // The face for other languages: one function for `init` and one for `render` of each oscillator, over lent arrays of 32-bit words, and one that writes
-// a stem. include/navuloqu.h declares them for C. Each is its oscillator's own face, or `wave`, under a name of the archive, which exports this crate's
-// functions alone.
+// a stem. Each is its oscillator's own face, or `wave`, under a name of the archive. `navuloqu_c` exports them to C, and include/navuloqu.h declares them.
 #![tactic(auto)]
 
 pub mod classic;

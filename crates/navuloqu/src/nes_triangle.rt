@@ -2,17 +2,15 @@
 ghost use Rattle.std.specs.Prelude.{◌≡◌};
 ghost use Rattle.nes_triangle_face.specs.Words.{init_words, render_face};
 
-// Passed on, as all below: an archive exports the functions of its own crate alone.
-#[unsafe(no_mangle)]
-pub extern "C" fn navuloqu_3_nes_triangle_init(words: &mut [u32; 5])
+// Passed on, as all below.
+pub fn navuloqu_3_nes_triangle_init(words: &mut [u32; 5])
     ensures { words.new ≡ init_words }
 {
     nes_triangle_face::init(words);
 }
 
 // A block.
-#[unsafe(no_mangle)]
-pub extern "C" fn navuloqu_3_nes_triangle_render(
+pub fn navuloqu_3_nes_triangle_render(
     words: &mut [u32; 5],
     frequency: f32,
     num_bits: u32,

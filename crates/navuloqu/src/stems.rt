@@ -2,9 +2,8 @@
 ghost use Rattle.std.specs.Prelude.{◌≡◌};
 ghost use Rattle.wave.specs.Write.{write_of};
 
-// Passed on, with the answer's number in its place: an archive exports the functions of its own crate alone.
-#[unsafe(no_mangle)]
-pub extern "C" fn navuloqu_3_wave_write(rate: u32, samples: &[f32], out: &mut [u8]) -> u32
+// Passed on, with the answer's number in its place.
+pub fn navuloqu_3_wave_write(rate: u32, samples: &[f32], out: &mut [u8]) -> u32
     ensures { record { number = result; bytes = out.new } ≡ write_of rate samples.now out.old }
 {
     wave::number(wave::write(rate, samples, out))

@@ -2,17 +2,15 @@
 ghost use Rattle.std.specs.Prelude.{◌≡◌};
 ghost use Rattle.string_synth_face.specs.Words.{init_words, render_face};
 
-// Passed on, as all below: an archive exports the functions of its own crate alone.
-#[unsafe(no_mangle)]
-pub extern "C" fn navuloqu_3_string_synth_init(words: &mut [u32; 8])
+// Passed on, as all below.
+pub fn navuloqu_3_string_synth_init(words: &mut [u32; 8])
     ensures { words.new ≡ init_words }
 {
     string_synth_face::init(words);
 }
 
 // A block, added to what the buffer holds.
-#[unsafe(no_mangle)]
-pub extern "C" fn navuloqu_3_string_synth_render(
+pub fn navuloqu_3_string_synth_render(
     words: &mut [u32; 8],
     frequency: f32,
     registration: &[f32],

@@ -2,17 +2,15 @@
 ghost use Rattle.std.specs.Prelude.{◌≡◌};
 ghost use Rattle.super_square_face.specs.Words.{init_words, render_face};
 
-// Passed on, as all below: an archive exports the functions of its own crate alone.
-#[unsafe(no_mangle)]
-pub extern "C" fn navuloqu_3_super_square_init(words: &mut [u32; 6])
+// Passed on, as all below.
+pub fn navuloqu_3_super_square_init(words: &mut [u32; 6])
     ensures { words.new ≡ init_words }
 {
     super_square_face::init(words);
 }
 
 // A block.
-#[unsafe(no_mangle)]
-pub extern "C" fn navuloqu_3_super_square_render(
+pub fn navuloqu_3_super_square_render(
     words: &mut [u32; 6],
     frequency: f32,
     shape: f32,

@@ -2,17 +2,15 @@
 ghost use Rattle.std.specs.Prelude.{◌≡◌};
 ghost use Rattle.variable_saw_face.specs.Words.{init_words, render_face};
 
-// Passed on, as all below: an archive exports the functions of its own crate alone.
-#[unsafe(no_mangle)]
-pub extern "C" fn navuloqu_3_variable_saw_init(words: &mut [u32; 7])
+// Passed on, as all below.
+pub fn navuloqu_3_variable_saw_init(words: &mut [u32; 7])
     ensures { words.new ≡ init_words }
 {
     variable_saw_face::init(words);
 }
 
 // A block.
-#[unsafe(no_mangle)]
-pub extern "C" fn navuloqu_3_variable_saw_render(
+pub fn navuloqu_3_variable_saw_render(
     words: &mut [u32; 7],
     frequency: f32,
     pw: f32,

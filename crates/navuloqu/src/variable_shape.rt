@@ -2,17 +2,15 @@
 ghost use Rattle.std.specs.Prelude.{◌≡◌};
 ghost use Rattle.variable_shape_face.specs.Words.{init_words, render_face, set_face};
 
-// Passed on, as all below: an archive exports the functions of its own crate alone.
-#[unsafe(no_mangle)]
-pub extern "C" fn navuloqu_3_variable_shape_init(words: &mut [u32; 10])
+// Passed on, as all below.
+pub fn navuloqu_3_variable_shape_init(words: &mut [u32; 10])
     ensures { words.new ≡ init_words }
 {
     variable_shape_face::init(words);
 }
 
 // A block.
-#[unsafe(no_mangle)]
-pub extern "C" fn navuloqu_3_variable_shape_render(
+pub fn navuloqu_3_variable_shape_render(
     words: &mut [u32; 10],
     master_frequency: f32,
     frequency: f32,
@@ -41,12 +39,8 @@ pub extern "C" fn navuloqu_3_variable_shape_render(
 }
 
 // Only the first word changes, and only where the phase is in its range.
-#[unsafe(no_mangle)]
-pub extern "C" fn navuloqu_3_variable_shape_set_master_phase(
-    words: &mut [u32; 10],
-    phase: f32,
-) -> u32
-    ensures { record { words = words.exit.now; number = result } ≡ set_face words.entry.now phase }
+pub fn navuloqu_3_variable_shape_set_master_phase(words: &mut [u32; 10], phase: f32) -> u32
+    ensures { record { words = words.new; number = result } ≡ set_face words.old phase }
 {
     variable_shape_face::set_master_phase(words, phase)
 }

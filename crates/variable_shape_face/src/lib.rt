@@ -98,7 +98,7 @@ pub fn render(
 
 // The first word alone is stored, so that the others stay bit by bit as they were, whatever they are.
 pub fn set_master_phase(words: &mut [u32; 10], phase: f32) -> u32
-    ensures { record { words = words.exit.now; number = result } ≡ set_face words.entry.now phase }
+    ensures { record { words = words.new; number = result } ≡ set_face words.old phase }
 {
     let r = variable_shape::set_master_phase(state_of(*words), phase);
     let answer = r.answer;
