@@ -22,7 +22,9 @@ fn put_fault(rt: &impl Eprint, good: bool) {
     if good {
         let _ = eprint!(rt; " were taken for records of 64 bytes");
     } else {
-        let _ = eprint!(rt; " are no job list, which has records of 64 bytes, at most 65,536 bytes in all");
+        let _ = eprint!(rt;
+            " are no job list, which has records of 64 bytes, at most 65,536 bytes in all"
+        );
     }
 }
 

@@ -27,7 +27,11 @@ fn print_lines(rt: HostRuntime, samples: &mut [f32; MOST_SAMPLES], lent: &mut [u
 }
 
 // Prints the line of the next record, and answers whether there may be more.
-fn print_next(rt: HostRuntime, samples: &mut [f32; MOST_SAMPLES], lent: &mut [u8; MOST_BYTES]) -> bool {
+fn print_next(
+    rt: HostRuntime,
+    samples: &mut [f32; MOST_SAMPLES],
+    lent: &mut [u8; MOST_BYTES],
+) -> bool {
     let mut input = [0u8; 64];
     if !streams::fill(rt, b"waves", &mut input) {
         return false;
