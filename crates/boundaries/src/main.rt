@@ -1,12 +1,14 @@
 // Test program: the figures of the request that are run, each with its name: how long a block may be, how long a registration is, how high a string goes, where the saw drifts, and
 // which sample rates the classic oscillator starts at.
+#![tactic(auto)]
+
 ghost use Rattle.std.specs.Prelude.{◌≤◌};
 
 use block::Answer;
 use classic::OscillatorShape;
 
 // One line for each figure, in the request's order, and all of them written at once.
-fn main() {
+fn main(rt: HostRuntime) {
     let mut space = [0u8; 1024];
     let text: &mut [u8] = &mut space;
     let pairs = put_pairs(text);
@@ -14,7 +16,7 @@ fn main() {
     let strings = put_strings(text, blocks);
     let drift = put_drift(text, strings);
     let end = put_rates(text, drift);
-    streams::write(b"boundaries", testing::front(text, end));
+    streams::write(rt, b"boundaries", testing::front(text, end));
 }
 
 // How long a block may be, of the oscillators with a master and a slave.

@@ -1,29 +1,32 @@
 // Test program: reads call records of 128 bytes from standard input, makes each call through the face for other languages, and prints a line
 // with what it left. A last record that is not whole is left out.
+#![tactic(auto)]
+
 mod kinds;
 mod line;
 mod others;
 mod record;
 mod samples;
 
-// A proved loop has to end, and nothing says that the input does: so the turns are counted down, from a number that no run uses up.
-fn main() {
-    let mut turns = u64::MAX;
-    while turns > 0 && print_next() {
-        turns -= 1;
+// A proved loop has to end, and nothing says that the input does: so the turns are counted, up to a number that no run reaches.
+fn main(rt: HostRuntime) {
+    for _ in 0..u64::MAX {
+        if !print_next(rt) {
+            break;
+        }
     }
 }
 
 // Prints the line of the next record, and answers whether there may be more.
-fn print_next() -> bool {
+fn print_next(rt: HostRuntime) -> bool {
     let mut record = [0u8; 128];
-    if !streams::fill(b"calls", &mut record) {
+    if !streams::fill(rt, b"calls", &mut record) {
         return false;
     }
     let mut space = [0u8; 176];
     let text: &mut [u8] = &mut space;
     let end = put_line(text, &record);
-    streams::write(b"calls", testing::front(text, end))
+    streams::write(rt, b"calls", testing::front(text, end))
 }
 
 // A record's line. Of the buffer the call gets as many samples as its block is long.

@@ -9,14 +9,14 @@ use block::Counts;
 pub(crate) const UNTOUCHED: f32 = 1.0e30;
 
 // The line of record k, from what the bank said of it and the buffer that it was lent.
-pub(crate) fn say(k: u32, outcome: Outcome, out: &[f32; 4096]) -> bool {
+pub(crate) fn say(rt: HostRuntime, k: u32, outcome: Outcome, out: &[f32; 4096]) -> bool {
     let mut space = [0u8; 108];
     let text: &mut [u8] = &mut space;
     let head = put_head(text, k, outcome.answer, outcome.drift);
     let counts = outcome.counts;
     let numbers = put_counts(text, head, counts);
     let end = put_samples(text, numbers, out);
-    streams::write(b"heard", testing::front(text, end))
+    streams::write(rt, b"heard", testing::front(text, end))
 }
 
 // The record's index and its answer.

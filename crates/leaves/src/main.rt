@@ -1,25 +1,28 @@
 // Test program: reads records of three little-endian bit patterns from standard input, and prints for each a line with what the leaves make
 // of it. A last record that is not whole is left out.
+#![tactic(auto)]
+
 use parameter_interpolator::ParameterInterpolator;
 
-// A proved loop has to end, and nothing says that the input does: so the turns are counted down, from a number that no run uses up.
-fn main() {
-    let mut turns = u64::MAX;
-    while turns > 0 && print_next() {
-        turns -= 1;
+// A proved loop has to end, and nothing says that the input does: so the turns are counted, up to a number that no run reaches.
+fn main(rt: HostRuntime) {
+    for _ in 0..u64::MAX {
+        if !print_next(rt) {
+            break;
+        }
     }
 }
 
 // Prints the line of the next record, and answers whether there may be more.
-fn print_next() -> bool {
+fn print_next(rt: HostRuntime) -> bool {
     let mut input = [0u8; 12];
-    if !streams::fill(b"leaves", &mut input) {
+    if !streams::fill(rt, b"leaves", &mut input) {
         return false;
     }
     let mut space = [0u8; 108];
     let text: &mut [u8] = &mut space;
     let end = put_line(text, &input);
-    streams::write(b"leaves", testing::front(text, end))
+    streams::write(rt, b"leaves", testing::front(text, end))
 }
 
 // Each of the twelve fields takes at most 8 bytes and the one after it.
@@ -57,10 +60,10 @@ fn put_helpers(text: &mut [u8], at: usize, x: f32, y: f32, z: f32) -> usize {
 // The increment and the first two steps from `x` to `y` over `size` samples, at the line's end.
 fn put_steps(text: &mut [u8], at: usize, x: f32, y: f32, size: u32) -> usize {
     let start = ParameterInterpolator::new(x, y, size);
-    let first = start.next();
-    let second = first.next();
     let increment = put_float(text, at, start.increment, b' ');
+    let first = start.next();
     let step = put_float(text, increment, first.value, b' ');
+    let second = first.next();
     put_float(text, step, second.value, b'\n')
 }
 

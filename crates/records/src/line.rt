@@ -4,7 +4,7 @@ use classic::OscillatorShape;
 use jobs::{Asked, Job, Settings};
 
 // The line of one job record; answers whether it was written.
-pub(crate) fn say(job: Job) -> bool {
+pub(crate) fn say(rt: HostRuntime, job: Job) -> bool {
     let mut space = [0u8; 144];
     let text: &mut [u8] = &mut space;
     let asked = job.asked;
@@ -14,7 +14,7 @@ pub(crate) fn say(job: Job) -> bool {
         Asked::Play(settings) => put_settings(text, settings, job.block_length),
     };
     let end = put_registration(text, settings, registration);
-    streams::write(b"records", testing::front(text, end))
+    streams::write(rt, b"records", testing::front(text, end))
 }
 
 // The kind and the block length, with which a line begins.

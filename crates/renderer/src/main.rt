@@ -1,5 +1,7 @@
 // Reads a job list and writes a line for each record. One byte more than the most is read, so that a list that is too long is seen.
 // What cannot be read or written is one line on standard error, and so is a note on bytes that are no job list or look like the text form of one.
+#![tactic(auto)]
+
 ghost use Rattle.std.specs.Prelude.{◌≡◌, take};
 ghost use Rattle.io.specs.Counts.{IsPrefixLen};
 ghost use Rattle.render.specs.Lists.{text_of};
@@ -9,21 +11,21 @@ use streams::Input;
 mod note;
 
 // An input that could not be read to its end is no list: nothing is written for it.
-fn main() {
+fn main(rt: HostRuntime) {
     let mut list = [0u8; 65537];
-    let input = streams::read(b"renderer", &mut list);
+    let input = streams::read(rt, b"renderer", &mut list);
     match input {
-        Input::Read(n) => answer(&list[..n]),
+        Input::Read(n) => answer(rt, &list[..n]),
         Input::Failed => {}
     }
 }
 
 // A note comes only where all was written, so that what fails stands alone on its line.
-fn answer(list: &[u8]) {
+fn answer(rt: HostRuntime, list: &[u8]) {
     let mut text = [0u8; render::ROOM];
     let end = compose(list, &mut text);
-    if streams::write(b"renderer", &text[..end]) {
-        note::say(list);
+    if streams::write(rt, b"renderer", &text[..end]) {
+        note::say(&rt, list);
     }
 }
 

@@ -1,27 +1,30 @@
 // Test program: prints the states that each oscillator starts from. Then reads records of 44 bytes from standard input, a state's ten words and a float,
 // and prints for each what the three forms of the variable shape's `set_master_phase` and the two of the classic's `init` answered and left, the float
 // their phase and their sample rate. A last record that is not whole is left out.
+#![tactic(auto)]
+
 mod fields;
 mod rating;
 mod record;
 mod setting;
 mod starting;
 
-// A proved loop has to end, and nothing says that the input does: so the turns are counted down, from a number that no run uses up.
-fn main() {
-    if !starting::say_all() {
+// A proved loop has to end, and nothing says that the input does: so the turns are counted, up to a number that no run reaches.
+fn main(rt: HostRuntime) {
+    if !starting::say_all(rt) {
         return;
     }
-    let mut turns = u64::MAX;
-    while turns > 0 && answer_next() {
-        turns -= 1;
+    for _ in 0..u64::MAX {
+        if !answer_next(rt) {
+            break;
+        }
     }
 }
 
 // Prints the line of the next record, and answers whether there may be more.
-fn answer_next() -> bool {
+fn answer_next(rt: HostRuntime) -> bool {
     let mut input = [0u8; 44];
-    if !streams::fill(b"starts", &mut input) {
+    if !streams::fill(rt, b"starts", &mut input) {
         return false;
     }
     let mut space = [0u8; 442];
@@ -29,5 +32,5 @@ fn answer_next() -> bool {
     let given = record::given(&input);
     let set = setting::put_forms(text, record::state_words(&input), given);
     let end = rating::put_forms(text, set, record::classic_words(&input), given);
-    streams::write(b"starts", testing::front(text, end))
+    streams::write(rt, b"starts", testing::front(text, end))
 }

@@ -2,83 +2,83 @@
 use crate::fields;
 
 // Three lines for each oscillator, in the order of the kinds; answers whether all were written, as each below.
-pub(crate) fn say_all() -> bool {
-    say_variable_shape()
-        && say_variable_saw()
-        && say_super_square()
-        && say_nes_triangle()
-        && say_string_synth()
-        && say_classic()
+pub(crate) fn say_all(rt: HostRuntime) -> bool {
+    say_variable_shape(rt)
+        && say_variable_saw(rt)
+        && say_super_square(rt)
+        && say_nes_triangle(rt)
+        && say_string_synth(rt)
+        && say_classic(rt)
 }
 
 // What `new` gives, what `init` gives, and the words that the exported `init` leaves; likewise below.
-fn say_variable_shape() -> bool {
+fn say_variable_shape(rt: HostRuntime) -> bool {
     let new = fields::of_variable_shape(variable_shape::new());
     let init = fields::of_variable_shape(variable_shape::init());
     let exported = exported_variable_shape();
-    say_state(b"variable shape, new: ", &new)
-        && say_state(b"variable shape, init: ", &init)
-        && say_state(b"variable shape, exported init: ", &exported)
+    say_state(rt, b"variable shape, new: ", &new)
+        && say_state(rt, b"variable shape, init: ", &init)
+        && say_state(rt, b"variable shape, exported init: ", &exported)
 }
 
 // The saw's three.
-fn say_variable_saw() -> bool {
+fn say_variable_saw(rt: HostRuntime) -> bool {
     let new = fields::of_variable_saw(variable_saw::new());
     let init = fields::of_variable_saw(variable_saw::init());
     let exported = exported_variable_saw();
-    say_state(b"variable saw, new: ", &new)
-        && say_state(b"variable saw, init: ", &init)
-        && say_state(b"variable saw, exported init: ", &exported)
+    say_state(rt, b"variable saw, new: ", &new)
+        && say_state(rt, b"variable saw, init: ", &init)
+        && say_state(rt, b"variable saw, exported init: ", &exported)
 }
 
 // The super square's three.
-fn say_super_square() -> bool {
+fn say_super_square(rt: HostRuntime) -> bool {
     let new = fields::of_super_square(super_square::new());
     let init = fields::of_super_square(super_square::init());
     let exported = exported_super_square();
-    say_state(b"super square, new: ", &new)
-        && say_state(b"super square, init: ", &init)
-        && say_state(b"super square, exported init: ", &exported)
+    say_state(rt, b"super square, new: ", &new)
+        && say_state(rt, b"super square, init: ", &init)
+        && say_state(rt, b"super square, exported init: ", &exported)
 }
 
 // The NES triangle's three.
-fn say_nes_triangle() -> bool {
+fn say_nes_triangle(rt: HostRuntime) -> bool {
     let new = fields::of_nes_triangle(nes_triangle::new());
     let init = fields::of_nes_triangle(nes_triangle::init());
     let exported = exported_nes_triangle();
-    say_state(b"NES triangle, new: ", &new)
-        && say_state(b"NES triangle, init: ", &init)
-        && say_state(b"NES triangle, exported init: ", &exported)
+    say_state(rt, b"NES triangle, new: ", &new)
+        && say_state(rt, b"NES triangle, init: ", &init)
+        && say_state(rt, b"NES triangle, exported init: ", &exported)
 }
 
 // The string's three.
-fn say_string_synth() -> bool {
+fn say_string_synth(rt: HostRuntime) -> bool {
     let new = fields::of_string_synth(string_synth::new());
     let init = fields::of_string_synth(string_synth::init());
     let exported = exported_string_synth();
-    say_state(b"string synth, new: ", &new)
-        && say_state(b"string synth, init: ", &init)
-        && say_state(b"string synth, exported init: ", &exported)
+    say_state(rt, b"string synth, new: ", &new)
+        && say_state(rt, b"string synth, init: ", &init)
+        && say_state(rt, b"string synth, exported init: ", &exported)
 }
 
 // The classic's three, at the renderer's sample rate.
-fn say_classic() -> bool {
+fn say_classic(rt: HostRuntime) -> bool {
     let new = fields::of_classic(classic::new());
     let started = classic::init(classic::new(), 48000.0);
     let init = fields::of_classic(started.state);
     let exported = exported_classic();
-    say_state(b"classic, new: ", &new)
-        && say_state(b"classic, init: ", &init)
-        && say_state(b"classic, exported init: ", &exported)
+    say_state(rt, b"classic, new: ", &new)
+        && say_state(rt, b"classic, init: ", &init)
+        && say_state(rt, b"classic, exported init: ", &exported)
 }
 
 // A line with a name and the words of a state.
-fn say_state(name: &[u8], words: &[u32]) -> bool {
+fn say_state(rt: HostRuntime, name: &[u8], words: &[u32]) -> bool {
     let mut space = [0u8; 128];
     let text: &mut [u8] = &mut space;
     let at = testing::put(text, 0, name);
     let end = testing::put_words(text, at, words, b'\n');
-    streams::write(b"starts", testing::front(text, end))
+    streams::write(rt, b"starts", testing::front(text, end))
 }
 
 // Before an exported `init` each word has all its bits set, so that one that it leaves alone is seen.

@@ -1,10 +1,11 @@
 // Reads a rate, four bytes, the lowest first, and then a job list, and writes the stem of the list at that rate. One byte more than the most is read, so
 // that a list that is too long is seen. A refusal writes nothing, and its number is one line on standard error; so is what cannot be read or written.
+#![tactic(auto)]
+
 ghost use Rattle.std.specs.Prelude.{◌≡◌, take};
 ghost use Rattle.io.specs.Counts.{IsPrefixLen};
 ghost use Rattle.stems.specs.Compose.{stem_for, number_for};
 
-use libc::STDERR_FILENO;
 use streams::Input;
 
 // What is answered: the number, and how many bytes the stem has, 0 where there is none.
@@ -15,31 +16,31 @@ struct Told {
 }
 
 // An input that could not be read to its end is none: nothing is written for it.
-fn main() {
+fn main(rt: HostRuntime) {
     let mut bytes = [0u8; 65541];
-    let input = streams::read(b"stem", &mut bytes);
+    let input = streams::read(rt, b"stem", &mut bytes);
     match input {
-        Input::Read(n) => answer(&bytes[..n]),
+        Input::Read(n) => answer(rt, &bytes[..n]),
         Input::Failed => {}
     }
 }
 
 // There is room for the longest stem.
-fn answer(input: &[u8]) {
+fn answer(rt: HostRuntime, input: &[u8]) {
     let mut stem = [0u8; wave::ROOM];
-    write(input, &mut stem);
+    write(rt, input, &mut stem);
 }
 
 // The stem, or else the number on a line of its own.
-fn write(input: &[u8], stem: &mut [u8; wave::ROOM]) {
+fn write(rt: HostRuntime, input: &[u8], stem: &mut [u8; wave::ROOM]) {
     let told = compose(input, stem);
     let all = &stem[..];
     let end = told.count;
     if told.number == 0 {
-        streams::write(b"stem", &all[0..end]);
+        streams::write(rt, b"stem", &all[0..end]);
     } else {
-        io::print_decimal(STDERR_FILENO, told.number as u64);
-        io::write_all(STDERR_FILENO, b"\n");
+        let number = told.number;
+        let _ = eprintln!(rt; "{number}");
     }
 }
 

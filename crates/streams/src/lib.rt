@@ -1,9 +1,15 @@
 // Standard input and output, for every program of the repository: a read or a write that fails is one line on standard error, which begins with the
-// program's name and ends with the system's reason. A program of the kit sets no exit status, so that line is how a script sees the failure.
-ghost use Rattle.std.specs.Prelude.{◌≡◌, length};
+// program's name and ends with the system's reason. A program of the repository sets no exit status, so that line is how a script sees the failure.
+#![tactic(auto)]
+
+ghost use Rattle.std.specs.Prelude.{◌≡◌, length, IfOk};
+ghost use Rattle.io.specs.Counts.{IsPrefixLen};
 ghost use Rattle.streams.specs.Input.{Inside, is_full};
 
-use libc::{STDERR_FILENO, STDIN_FILENO, STDOUT_FILENO};
+use arrayvec::ArrayString;
+use std::fmt::Write as _;
+use std::io;
+use std::io::{Read, Write};
 
 // What a read came to: so many bytes at the buffer's front, fewer than it holds only where the input ended. Or a read failed, which has been said, and
 // what was read before it is no input.
@@ -14,44 +20,46 @@ pub enum Input {
 }
 
 // Reads until the buffer is full or the input ends.
-pub fn read(program: &[u8], buf: &mut [u8]) -> Input
+pub fn read(rt: HostRuntime, program: &[u8], buf: &mut [u8]) -> Input
     ensures { Inside result buf.new }
 {
-    let input = read_on(buf);
-    say_failure(program, input);
-    input
-}
-
-// A failed read is said, and nothing else.
-fn say_failure(program: &[u8], input: Input) {
-    match input {
-        Input::Read(_) => {}
-        Input::Failed => fail(program, b": cannot read standard input"),
+    match read_on(&mut rt.stdin(), buf) {
+        Ok(n) => Input::Read(n),
+        Err(error) => {
+            say_failure(rt, program, error);
+            Input::Failed
+        }
     }
 }
 
-// The same without a word.
-fn read_on(buf: &mut [u8]) -> Input
-    ensures { Inside result buf.new }
+// A failed read is said, and nothing else.
+fn say_failure(rt: HostRuntime, program: &[u8], error: io::Error) {
+    fail(
+        &mut rt.stderr(),
+        program,
+        b": cannot read standard input",
+        error,
+    )
+}
+
+// The same without a word. A read that a signal interrupts has failed.
+fn read_on<R: Read>(input: &mut R, buf: &mut [u8]) -> io::Result<usize>
+    ensures { IfOk result (λ n. IsPrefixLen n buf.new) }
 {
     let mut done = 0;
     while done < buf.len() {
-        let got = libc::read(STDIN_FILENO, &mut buf[done..]);
-        if got < 0 {
-            return Input::Failed;
-        }
-        let more = io::count(got, &buf[done..]);
+        let more = input.read(&mut buf[done..])?;
         if more == 0 {
             break;
         }
         done += more;
     }
-    Input::Read(done)
+    Ok(done)
 }
 
 // Whether the input had as many bytes as the buffer holds. Where it ended before, nothing is said: what is left of it is no whole record.
-pub fn fill(program: &[u8], buf: &mut [u8]) -> bool {
-    let input = read(program, buf);
+pub fn fill(rt: HostRuntime, program: &[u8], buf: &mut [u8]) -> bool {
+    let input = read(rt, program, buf);
     is_full(input, buf)
 }
 
@@ -66,16 +74,49 @@ fn is_full(input: Input, buf: &[u8]) -> bool
 }
 
 // Writes all of the text, and answers whether that was done. Where it was not, that has been said, and a part of the text may have been written.
-pub fn write(program: &[u8], text: &[u8]) -> bool {
-    let written = io::write_all(STDOUT_FILENO, text);
-    if !written {
-        fail(program, b": cannot write standard output");
+pub fn write(rt: HostRuntime, program: &[u8], text: &[u8]) -> bool {
+    match put_all(&mut rt.stdout(), text) {
+        Ok(()) => true,
+        Err(error) => {
+            fail(
+                &mut rt.stderr(),
+                program,
+                b": cannot write standard output",
+                error,
+            );
+            false
+        }
     }
-    written
 }
 
-// One line: the program, what it could not do, and why. The system's reason is that of the last call that failed, so this comes straight after it.
-fn fail(program: &[u8], what: &[u8]) {
-    io::write_all(STDERR_FILENO, program);
-    os::fail(what);
+// The bytes one write after the other, up to the first that fails or takes none: of that the system says no more than that nothing went wrong.
+fn put_all<W: Write>(output: &mut W, bytes: &[u8]) -> io::Result<()> {
+    let mut done = 0;
+    while done < bytes.len() {
+        let taken = output.write(&bytes[done..])?;
+        if taken == 0 {
+            return Err(io::Error::from_raw_os_error(0));
+        }
+        done += taken;
+    }
+    Ok(())
+}
+
+// One line: the program, what it could not do, and why. Where it cannot be written there is nobody left to tell.
+fn fail<W: Write>(errors: &mut W, program: &[u8], what: &[u8], error: io::Error) {
+    let mut said = ArrayString::<256>::new();
+    let _ = write!(said, "{error}");
+    let _ = put_all(errors, program);
+    let _ = put_all(errors, what);
+    let _ = put_all(errors, b": ");
+    let _ = put_all(errors, reason(said.as_str()).as_bytes());
+    let _ = put_all(errors, b"\n");
+}
+
+// The words of an error, without the number that std puts behind those of the system: a script reads the line.
+fn reason(said: &str) -> &str {
+    match said.rsplit_once(" (os error ") {
+        Some((words, _)) => words,
+        None => said,
+    }
 }

@@ -1,5 +1,7 @@
 // Test program: reads records of 64 bytes from standard input, hands the samples that each stands for to `wave`, and prints a line with its answer and
 // the sum of all lent bytes after it. A last record that is not whole is left out.
+#![tactic(auto)]
+
 mod record;
 
 // The samples that a record may ask for: one more than a stem has at most.
@@ -9,30 +11,35 @@ const MOST_SAMPLES: usize = 1_048_577;
 const MOST_BYTES: usize = 2_097_204;
 
 // The buffers are as large as fits on a stack, and so they are made once.
-fn main() {
+fn main(rt: HostRuntime) {
     let mut samples = [0.0f32; MOST_SAMPLES];
     let mut lent = [0u8; MOST_BYTES];
-    print_lines(&mut samples, &mut lent);
+    print_lines(rt, &mut samples, &mut lent);
 }
 
-// A proved loop has to end, and nothing says that the input does: so the turns are counted down, from a number that no run uses up.
-fn print_lines(samples: &mut [f32; MOST_SAMPLES], lent: &mut [u8; MOST_BYTES]) {
-    let mut turns = u64::MAX;
-    while turns > 0 && print_next(samples, lent) {
-        turns -= 1;
+// A proved loop has to end, and nothing says that the input does: so the turns are counted, up to a number that no run reaches.
+fn print_lines(rt: HostRuntime, samples: &mut [f32; MOST_SAMPLES], lent: &mut [u8; MOST_BYTES]) {
+    for _ in 0..u64::MAX {
+        if !print_next(rt, samples, lent) {
+            break;
+        }
     }
 }
 
 // Prints the line of the next record, and answers whether there may be more.
-fn print_next(samples: &mut [f32; MOST_SAMPLES], lent: &mut [u8; MOST_BYTES]) -> bool {
+fn print_next(
+    rt: HostRuntime,
+    samples: &mut [f32; MOST_SAMPLES],
+    lent: &mut [u8; MOST_BYTES],
+) -> bool {
     let mut input = [0u8; 64];
-    if !streams::fill(b"waves", &mut input) {
+    if !streams::fill(rt, b"waves", &mut input) {
         return false;
     }
     let mut space = [0u8; 11];
     let text: &mut [u8] = &mut space;
     let end = put_line(text, &input, &mut samples[..], &mut lent[..]);
-    streams::write(b"waves", testing::front(text, end))
+    streams::write(rt, b"waves", testing::front(text, end))
 }
 
 // A record's line. Of the buffers the call gets as many samples and bytes as the record says, and without so many there is no call.
