@@ -1,5 +1,4 @@
 -- `bank::by_kind` meets its contract: each case is its kind's call. Assumes nothing.
-use borrow.Author.Rules.{rules}
 use Rattle.bank.proofs.by_kind.Goals as goal
 
 pub returns-in-VariableShape : goal.returns-in-VariableShape

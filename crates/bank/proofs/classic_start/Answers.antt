@@ -5,7 +5,6 @@ use Rattle.classic.specs.Start.{Start, started_at}
 use Rattle.classic.specs.declared.State.{State}
 use Rattle.classic.specs.State.{initial_state}
 use Rattle.bank.specs.Bank.{sample_rate}
-use borrow.Author.Rules.{rules}
 use Rattle.bank.proofs.classic_start.Goals as goal
 
 -- 48,000 is at least 8,000 and at most 384,000, whatever state is given

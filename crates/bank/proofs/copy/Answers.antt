@@ -1,8 +1,5 @@
 -- `bank::copy` meets its contract: the loop copies sample by sample. The measure is how many are left. Assumes nothing.
-use Prim.Native.Nat.{◌-◌}
-use borrow.Author.Rules.{rules}
-use lib.ListN.{length}
-use Rattle.bank.proofs.Lending.{Copied, copied_start, copied_more, copied_end}
+use Rattle.bank.proofs.Lending.{copied_start, copied_more, copied_end}
 use Rattle.bank.proofs.copy.Goals as goal
 
 pub loop-i-init : goal.loop-i-init

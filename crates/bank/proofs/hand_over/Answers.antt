@@ -1,6 +1,5 @@
 -- `bank::hand_over` meets its contract: the samples of an answered call are copied where they fit. Assumes nothing.
 use Rattle.bank.proofs.Lending.{refused_way, long_way, room_way}
-use borrow.Author.Rules.{rules}
 use Rattle.bank.proofs.hand_over.Goals as goal
 
 pub returns-then-r-ne0 : goal.returns-then-r-ne0

@@ -1,5 +1,4 @@
 -- `bank::no_room` meets its contract. Assumes nothing.
-use borrow.Author.Rules.{rules}
 use Rattle.bank.proofs.no_room.Goals as goal
 
 pub returns : goal.returns

@@ -2,7 +2,6 @@
 use mathlib.Core.Path.{◌∙◌, ap}
 use Rattle.bank.specs.Bank.{Made}
 use Rattle.bank.specs.Lent.{handed}
-use borrow.Author.Rules.{rules}
 use Rattle.bank.proofs.on_block.Goals as goal
 
 pub returns : goal.returns

@@ -4,7 +4,6 @@ use native.Mathlib.Omega.{arith}
 use Rattle.bank.specs.Bank.{Made}
 use Rattle.bank.specs.Lent.{handed}
 use Rattle.bank.proofs.LongBlocks.{lent_most, lent_part}
-use borrow.Author.Rules.{rules}
 use Rattle.bank.proofs.on_silence.Goals as goal
 
 pub slice_bounds-buffer-end : goal.slice_bounds-buffer-end

@@ -2,7 +2,6 @@
 use mathlib.Core.Path.{refl, sym}
 use Rattle.bank.specs.Bank.{refused_record, record_played}
 use Rattle.bank.proofs.Lending.{without_samples}
-use borrow.Author.Rules.{rules}
 use Rattle.bank.proofs.play.Goals as goal
 
 pub returns-in-BadRecord : goal.returns-in-BadRecord

@@ -1,6 +1,5 @@
 -- `bank::start` meets its contract: every kind starts from `init`. Assumes nothing.
 use mathlib.Core.Path.{refl}
-use borrow.Author.Rules.{rules}
 use Rattle.bank.proofs.start.Goals as goal
 
 pub returns : goal.returns

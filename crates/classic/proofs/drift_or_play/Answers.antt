@@ -1,5 +1,5 @@
 -- `classic::drift_or_play` meets its contract: what `find_drift` tells decides, as in the definition. A width that is not stepped has a place that is not used. Assumes nothing.
-use Rattle.std.proofs.Common.{◌≡◌, ℕ, Bool, true, false, cond, [], ◌∷◌, ◌++◌, ◌∙◌, rules}
+use Rattle.std.proofs.Common.{◌≡◌, ℕ, Bool, true, false, cond, [], ◌∷◌, ◌++◌, ◌∙◌}
 use Rattle.rooms.specs.declared.Room.{Room}
 use Rattle.rooms.specs.declared.Room.TheVariants.{Unused, Frequency, PulseWidth}
 use Rattle.rooms.specs.declared.Found.{Found}

@@ -1,5 +1,5 @@
 -- `classic::glides` meets its contract, with a width that is stepped and without. Assumes nothing.
-use Rattle.std.proofs.Common.{sym, ◌∙◌, rules}
+use Rattle.std.proofs.Common.{sym, ◌∙◌}
 use mathlib.Core.Bool.{and-true}
 use Rattle.ranges.specs.Ranges.{all_of}
 use Rattle.classic.proofs.glides.Goals as goal

@@ -1,5 +1,5 @@
 -- `classic::parameters_in` meets its contract. Assumes nothing.
-use Rattle.std.proofs.Common.{[], ◌∷◌, rules}
+use Rattle.std.proofs.Common.{[], ◌∷◌}
 use Rattle.ranges.proofs.AllOf.{joined_all}
 use Rattle.classic.specs.Block.{parameters_in}
 use Rattle.classic.proofs.parameters_in.Goals as goal

@@ -1,5 +1,5 @@
 -- `classic::refuse` meets its contract. Assumes nothing.
-use Rattle.std.proofs.Common.{refl, rules}
+use Rattle.std.proofs.Common.{refl}
 use Rattle.classic.proofs.refuse.Goals as goal
 
 pub returns : goal.returns

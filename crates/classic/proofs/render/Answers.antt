@@ -1,5 +1,5 @@
 -- `classic::render` meets its contract: each way out is the definition's. Assumes nothing.
-use Rattle.std.proofs.Common.{sym, ap, ◌∙◌, rules, le-leb}
+use Rattle.std.proofs.Common.{sym, ap, ◌∙◌, le-leb}
 use borrow.Author.Tests.{lt-leb}
 use Rattle.floats.proofs.Bools.{holds}
 use Rattle.rooms.specs.declared.Glides.{Glides}

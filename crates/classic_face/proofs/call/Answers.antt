@@ -1,6 +1,5 @@
 -- `classic_face::call` meets its contract: the call of the shape that the number names, or else one that is refused in its place. Assumes nothing.
 use mathlib.Core.Path.{◌∙◌, sym}
-use borrow.Author.Rules.{rules}
 use Rattle.classic.specs.declared.shapes.Named.TheVariants.{NoShape}
 use Rattle.classic_face.proofs.Calls.{called}
 use Rattle.classic_face.proofs.call.Goals as goal

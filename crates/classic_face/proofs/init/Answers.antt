@@ -1,5 +1,4 @@
 -- `classic_face::init` meets its contract: the classic oscillator's own start, put into words. Assumes nothing.
-use borrow.Author.Rules.{rules}
 use Rattle.classic_face.proofs.Calls.{start_is}
 use Rattle.classic_face.proofs.init.Goals as goal
 

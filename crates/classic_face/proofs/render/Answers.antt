@@ -1,6 +1,5 @@
 -- `classic_face::render` meets its contract: the classic oscillator's own call, put into words. Assumes nothing.
 use mathlib.Core.Path.{◌∙◌, sym}
-use borrow.Author.Rules.{rules}
 use Rattle.words.proofs.Faces.{face_is}
 use Rattle.classic_face.proofs.render.Goals as goal
 

@@ -1,5 +1,4 @@
 -- `classic_face::state_of` meets its contract: field by field. Assumes nothing.
-use borrow.Author.Rules.{rules}
 use Rattle.classic_face.specs.Words.{state_of}
 use Rattle.classic_face.proofs.state_of.Goals as goal
 

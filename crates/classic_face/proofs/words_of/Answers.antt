@@ -1,5 +1,4 @@
 -- `classic_face::words_of` meets its contract: field by field. Assumes nothing.
-use borrow.Author.Rules.{rules}
 use Rattle.classic_face.specs.Words.{words_of}
 use Rattle.classic_face.proofs.words_of.Goals as goal
 

@@ -1,5 +1,4 @@
 -- `edges::at_reset` meets its contract. Assumes nothing.
-use Rattle.std.proofs.Common.{rules}
 use Rattle.edges.proofs.at_reset.Goals as goal
 
 pub returns : goal.returns

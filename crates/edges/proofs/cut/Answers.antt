@@ -1,5 +1,5 @@
 -- `edges::cut` meets its contract: field by field. Assumes nothing.
-use Rattle.std.proofs.Common.{refl, rules}
+use Rattle.std.proofs.Common.{refl}
 use Rattle.edges.proofs.cut.Goals as goal
 
 pub returns : goal.returns

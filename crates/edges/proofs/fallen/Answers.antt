@@ -1,5 +1,4 @@
 -- `edges::fallen` meets its contract. Assumes nothing.
-use Rattle.std.proofs.Common.{rules}
 use Rattle.edges.proofs.fallen.Goals as goal
 
 pub returns : goal.returns

@@ -1,5 +1,4 @@
 -- `edges::risen` meets its contract. Assumes nothing.
-use Rattle.std.proofs.Common.{rules}
 use Rattle.edges.proofs.risen.Goals as goal
 
 pub returns : goal.returns

@@ -1,5 +1,4 @@
 -- `edges::transition_during_reset` meets its contract. Assumes nothing.
-use Rattle.std.proofs.Common.{rules}
 use Rattle.edges.proofs.transition_during_reset.Goals as goal
 
 pub returns : goal.returns

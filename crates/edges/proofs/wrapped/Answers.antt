@@ -1,5 +1,4 @@
 -- `edges::wrapped` meets its contract. Assumes nothing.
-use Rattle.std.proofs.Common.{rules}
 use Rattle.edges.proofs.wrapped.Goals as goal
 
 pub returns : goal.returns

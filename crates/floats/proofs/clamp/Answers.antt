@@ -1,5 +1,4 @@
 -- `floats::clamp` meets its contract: `at_least` is the first test, and the second is the definition's. Assumes nothing.
-use borrow.Author.Rules.{rules}
 use Rattle.floats.proofs.clamp.Goals as goal
 
 pub returns-then-high-raised : goal.returns-then-high-raised

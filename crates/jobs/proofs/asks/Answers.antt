@@ -2,7 +2,6 @@
 use mathlib.Core.Path.{sym, ◌∙◌}
 use borrow.Author.Tests.{eq-eqb, ne_eqb}
 use Rattle.jobs.specs.Record.{asked_of}
-use borrow.Author.Rules.{rules}
 use Rattle.jobs.proofs.asks.Goals as goal
 
 pub returns-then-part-ne64 : goal.returns-then-part-ne64

@@ -4,7 +4,6 @@ use Prim.Native.Nat.{ℕ}
 use Rattle.classic.specs.Shapes.{numbered}
 use Rattle.classic.specs.declared.shapes.Named.{Named}
 use Rattle.jobs.specs.Record.{classic_of}
-use borrow.Author.Rules.{rules}
 use Rattle.jobs.proofs.classic.Goals as goal
 
 -- what the flags name, once they are read, widened and looked up

@@ -2,7 +2,6 @@
 use mathlib.Core.Path.{refl, sym, ap, ◌∙◌}
 use Rattle.jobs.proofs.Plays.{plays, refuses}
 use Rattle.jobs.specs.Record.{step_count_in, nes_of}
-use borrow.Author.Rules.{rules}
 use Rattle.jobs.proofs.nes.Goals as goal
 
 pub returns-then-step_count_in : goal.returns-then-step_count_in

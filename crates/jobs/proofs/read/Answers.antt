@@ -1,6 +1,5 @@
 -- `jobs::read` meets its contract. Assumes nothing.
 use Rattle.jobs.specs.Record.{job_of}
-use borrow.Author.Rules.{rules}
 use Rattle.jobs.proofs.read.Goals as goal
 
 pub returns : goal.returns

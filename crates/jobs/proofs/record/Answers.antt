@@ -4,7 +4,6 @@ use borrow.Author.Tests.{lt-ltb, le-ltb, eq-eqb, ne_eqb}
 use Prim.Native.Nat.{◌%◌}
 use native.Mathlib.Nat.{add-sub_cancel_left}
 use lib.ListN.{length}
-use borrow.Author.Rules.{rules}
 use Rattle.jobs.proofs.record.Goals as goal
 
 pub returns-then-n-ne0 : goal.returns-then-n-ne0

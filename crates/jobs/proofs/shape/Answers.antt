@@ -8,7 +8,6 @@ use Rattle.jobs.proofs.Plays.{plays, refuses}
 use Rattle.jobs.specs.declared.Settings.TheVariants.{VariableShape}
 use Rattle.jobs.specs.Words.{float_at}
 use Rattle.jobs.specs.Record.{shape_of}
-use borrow.Author.Rules.{rules}
 use Rattle.jobs.proofs.shape.Goals as goal
 
 pub returns-then-flags-le3 : goal.returns-then-flags-le3

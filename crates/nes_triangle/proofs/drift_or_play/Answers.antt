@@ -1,5 +1,5 @@
 -- `nes_triangle::drift_or_play` meets its contract: what `find_drift` tells decides, as in the definition. Assumes nothing.
-use Rattle.std.proofs.Common.{◌∙◌, rules}
+use Rattle.std.proofs.Common.{◌∙◌}
 use Rattle.block.proofs.Runs.{finds_drift, finds_playable, finds_none}
 use Rattle.nes_triangle.proofs.drift_or_play.Goals as goal
 

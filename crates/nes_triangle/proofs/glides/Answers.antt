@@ -1,6 +1,5 @@
 -- `nes_triangle::glides` meets its contract. Assumes nothing.
 use mathlib.Core.Bool.{and-true}
-use Rattle.std.proofs.Common.{rules}
 use Rattle.ranges.specs.Ranges.{all_of}
 use Rattle.nes_triangle.proofs.glides.Goals as goal
 

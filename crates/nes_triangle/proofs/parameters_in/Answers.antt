@@ -1,5 +1,5 @@
 -- `nes_triangle::parameters_in` meets its contract. Assumes nothing.
-use Rattle.std.proofs.Common.{[], ◌∷◌, rules}
+use Rattle.std.proofs.Common.{[], ◌∷◌}
 use Rattle.ranges.proofs.AllOf.{joined_all}
 use Rattle.nes_triangle.specs.Block.{parameters_in}
 use Rattle.nes_triangle.proofs.parameters_in.Goals as goal

@@ -1,11 +1,8 @@
 -- `nes_triangle::play` meets its contract: the loop's law is `block`'s, for any oscillator. Between samples the state's step and its level are held. Assumes nothing.
-use Rattle.std.proofs.Common.{◌-◌, length, sym, ◌∙◌, arith, rules}
-use Rattle.block.proofs.Turns.{Turning, turning_start, turning_more, turning_end}
-use Rattle.nes_triangle.specs.Sample.{sample_at}
-use Rattle.nes_triangle.specs.Block.{rooms}
-use Rattle.nes_triangle.specs.Private.{Passed}
+use Rattle.std.proofs.Common.{sym, ◌∙◌, arith}
+use Rattle.block.proofs.Turns.{turning_start, turning_more, turning_end}
 use Rattle.nes_triangle.proofs.Keeping.{keeps}
-use Rattle.nes_triangle.proofs.Held.{Holds, holdable}
+use Rattle.nes_triangle.proofs.Held.{holdable}
 use Rattle.nes_triangle.proofs.Playing.{ready, made, held_next, quiet_turn}
 use Rattle.nes_triangle.proofs.play.Goals as goal
 

@@ -1,5 +1,5 @@
 -- `nes_triangle::refuse` meets its contract. Assumes nothing.
-use Rattle.std.proofs.Common.{refl, rules}
+use Rattle.std.proofs.Common.{refl}
 use Rattle.nes_triangle.proofs.refuse.Goals as goal
 
 pub returns : goal.returns

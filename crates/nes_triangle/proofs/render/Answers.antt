@@ -1,5 +1,5 @@
 -- `nes_triangle::render` meets its contract: each way out is the definition's. Assumes nothing.
-use Rattle.std.proofs.Common.{sym, refl, ap, ◌∙◌, rules, le-leb}
+use Rattle.std.proofs.Common.{sym, refl, ap, ◌∙◌, le-leb}
 use borrow.Author.Tests.{lt-leb}
 use Rattle.block.specs.Checks.{here, later}
 use Rattle.floats.proofs.Bools.{holds}

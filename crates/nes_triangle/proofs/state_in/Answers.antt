@@ -1,5 +1,5 @@
 -- `nes_triangle::state_in` meets its contract. Assumes nothing.
-use Rattle.std.proofs.Common.{[], ◌∷◌, to_z-of_z, rules}
+use Rattle.std.proofs.Common.{[], ◌∷◌, to_z-of_z}
 use Rattle.ranges.proofs.AllOf.{joined_all}
 use Rattle.nes_triangle.specs.Block.{state_in}
 use Rattle.nes_triangle.proofs.state_in.Goals as goal

@@ -1,5 +1,5 @@
 -- `nes_triangle::step_in` meets its contract: each way of the test is the definition's. Assumes nothing.
-use Rattle.std.proofs.Common.{to_z-of_z, w32, to_z, of_z, rules}
+use Rattle.std.proofs.Common.{to_z-of_z, w32, to_z, of_z}
 use mir.Facts.{Fits-nat_abs}
 use Rattle.floats.proofs.Integers.{not_negative}
 use Rattle.nes_triangle.proofs.Depths.{negative, step_in_is}

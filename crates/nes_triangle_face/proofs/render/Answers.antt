@@ -1,6 +1,5 @@
 -- `nes_triangle_face::render` meets its contract: the NES triangle's own call, put into words. Assumes nothing.
 use mathlib.Core.Path.{◌∙◌, sym}
-use borrow.Author.Rules.{rules}
 use Rattle.words.proofs.Faces.{face_is}
 use Rattle.nes_triangle_face.proofs.render.Goals as goal
 

@@ -1,5 +1,4 @@
 -- `nes_triangle_face::state_of` meets its contract: field by field. Assumes nothing.
-use borrow.Author.Rules.{rules}
 use Rattle.words.proofs.Words.{signed_kept}
 use Rattle.nes_triangle_face.specs.Words.{state_of}
 use Rattle.nes_triangle_face.proofs.state_of.Goals as goal

@@ -1,6 +1,5 @@
 -- `nes_triangle_face::words_of` meets its contract: field by field. Assumes nothing.
 use mir.Facts.{to_z-of_z}
-use borrow.Author.Rules.{rules}
 use Rattle.nes_triangle_face.specs.Words.{words_of}
 use Rattle.nes_triangle_face.proofs.words_of.Goals as goal
 

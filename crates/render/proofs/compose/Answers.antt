@@ -1,7 +1,5 @@
 -- `render::compose` meets its contract: the lines of every record, or the one line of a malformed list. Assumes nothing.
-use mathlib.Core.Path.{◌≡◌, sym, ◌∙◌}
-use mathlib.Core.Bool.{true, false}
-use Rattle.render.specs.Lists.{is_job_list}
+use mathlib.Core.Path.{sym, ◌∙◌}
 use Rattle.render.proofs.Handing.{good_list, bad_list, few_records}
 use borrow.Author.Rules.{rules}
 use Rattle.render.proofs.compose.Goals as goal

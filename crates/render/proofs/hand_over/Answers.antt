@@ -1,6 +1,5 @@
 -- `render::hand_over` meets its contract: the text is copied where it fits. Assumes nothing.
 use Rattle.render.proofs.Handing.{handed, not_handed}
-use borrow.Author.Rules.{rules}
 use Rattle.render.proofs.hand_over.Goals as goal
 
 pub returns-then-from-out : goal.returns-then-from-out

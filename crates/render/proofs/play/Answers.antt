@@ -1,7 +1,6 @@
 -- `render::play` meets its contract: 4,096 samples are room enough. Assumes nothing.
 use native.Mathlib.Omega.{arith}
 use Rattle.render.proofs.Loop.{said}
-use borrow.Author.Rules.{rules}
 use Rattle.render.proofs.play.Goals as goal
 
 pub returns : goal.returns

@@ -3,9 +3,8 @@ use Rattle.bank.specs.Bank.{record_played}
 use Rattle.render.specs.Private.{said_of}
 use mathlib.Core.List.{List}
 use mathlib.Core.Path.{◌∙◌, ap}
-use Prim.Native.Nat.{ℕ, ◌-◌}
-use Rattle.render.proofs.Loop.{Running, running_start, running_more, running_end}
-use borrow.Author.Rules.{rules}
+use Prim.Native.Nat.{ℕ}
+use Rattle.render.proofs.Loop.{running_start, running_more, running_end}
 use Rattle.render.proofs.records.Goals as goal
 
 pub start-bank-requires : goal.start-bank-requires

@@ -1,11 +1,6 @@
 -- `render::records` meets its contract. The loop's invariant: the lines of the first `k` records are written. Assumes nothing.
-use Rattle.bank.specs.Bank.{record_played}
-use Rattle.render.specs.Private.{said_of}
-use mathlib.Core.List.{List}
-use mathlib.Core.Path.{◌∙◌, ap}
-use Prim.Native.Nat.{ℕ, ◌-◌}
-use Rattle.render.proofs.Loop.{Running, running_start, running_more, running_end}
-use borrow.Author.Rules.{rules}
+use Prim.Native.Nat.{◌-◌}
+use Rattle.render.proofs.Loop.{Running}
 use Rattle.render.proofs.records.Given as goal
 
 abbrev pub invariant-loop-k : goal.invariant-loop-k

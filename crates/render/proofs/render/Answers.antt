@@ -5,7 +5,6 @@ use mathlib.Core.List.{List}
 use Prim.Native.Nat.{ℕ}
 use Rattle.render.specs.Lists.{text_of, answer_if, written}
 use Rattle.render.proofs.Laying.{read_back}
-use borrow.Author.Rules.{rules}
 use Rattle.render.proofs.render.Goals as goal
 
 pub returns : goal.returns

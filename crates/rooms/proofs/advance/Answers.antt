@@ -1,5 +1,4 @@
 -- `rooms::advance` meets its contract. Assumes nothing.
-use borrow.Author.Rules.{rules}
 use Rattle.rooms.proofs.Places.{moved_places}
 use Rattle.rooms.proofs.advance.Goals as goal
 

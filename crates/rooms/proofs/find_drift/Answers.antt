@@ -1,5 +1,4 @@
 -- `rooms::find_drift` meets its contract: nothing where all is safe, and else what the walk finds. Assumes nothing.
-use borrow.Author.Rules.{rules}
 use Rattle.rooms.proofs.find_drift.Goals as goal
 
 pub returns : goal.returns

@@ -1,11 +1,8 @@
 -- `rooms::first_outside` meets its contract: the laws of its two loops are in `Walks`, and that the unused places change nothing in `Padding`. Assumes nothing.
 use mathlib.Core.Path.{◌∙◌, sym}
-use Prim.Native.Nat.{◌≤◌, ◌-◌}
 use native.Mathlib.Omega.{arith}
-use lib.ListN.{length, take}
-use borrow.Author.Rules.{rules}
-use Rattle.rooms.proofs.Padding.{UnusedFrom, walk_front}
-use Rattle.rooms.proofs.Walks.{Moving, moving_start, moving_more, moving_out, moving_end, Walked, walked_start, walked_end, walked_out, walked_more}
+use Rattle.rooms.proofs.Padding.{walk_front}
+use Rattle.rooms.proofs.Walks.{moving_start, moving_more, moving_out, moving_end, walked_start, walked_end, walked_out, walked_more}
 use Rattle.rooms.proofs.first_outside.Goals as goal
 
 pub walk-init : goal.walk-init

@@ -1,9 +1,7 @@
 -- `rooms::used_places` meets its contract: it goes down from five as long as the last room is unused. Assumes nothing.
-use mathlib.Core.Path.{◌≡◌}
 use native.Mathlib.Omega.{arith}
 use borrow.Author.Rules.{rules}
-use lib.ListN.{length}
-use Rattle.rooms.proofs.Padding.{UnusedFrom, unused_end, unused_before}
+use Rattle.rooms.proofs.Padding.{unused_end}
 use Rattle.rooms.proofs.used_places.Goals as goal
 
 pub loop-k-init : goal.loop-k-init

@@ -1,8 +1,6 @@
 -- `stems::compose` meets its contract: what is no rate and job list is refused, and of any other the sound is written. Assumes nothing.
-use mathlib.Core.Path.{◌≡◌, sym, ◌∙◌}
-use mathlib.Core.Bool.{true}
+use mathlib.Core.Path.{sym, ◌∙◌}
 use borrow.Author.Rules.{rules}
-use Rattle.stems.specs.Compose.{is_input}
 use Rattle.stems.proofs.Ways.{has_rate, refused_way, answered_way}
 use Rattle.stems.proofs.compose.Goals as goal
 

@@ -1,6 +1,5 @@
 -- `stems::in_room` meets its contract: the samples that were laid stand for the sound. Assumes nothing.
 use mathlib.Core.Path.{◌∙◌}
-use borrow.Author.Rules.{rules}
 use Rattle.stems.proofs.Ways.{laid_written}
 use Rattle.stems.proofs.in_room.Goals as goal
 

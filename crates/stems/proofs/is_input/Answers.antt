@@ -1,6 +1,5 @@
 -- `stems::is_input` meets its contract. Assumes nothing.
 use mathlib.Core.Path.{sym, ap, ◌∙◌}
-use borrow.Author.Rules.{rules}
 use Rattle.render.specs.Lists.{is_job_list}
 use Rattle.stems.proofs.Ways.{rest_whole, short_input, long_input}
 use Rattle.stems.proofs.is_input.Goals as goal

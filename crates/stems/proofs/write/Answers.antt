@@ -1,5 +1,4 @@
 -- `stems::write` meets its contract: each answer of `wave` has its own. Assumes nothing.
-use borrow.Author.Rules.{rules}
 use Rattle.stems.proofs.Ways.{done_way, unfit_way, short_way}
 use Rattle.stems.proofs.write.Goals as goal
 

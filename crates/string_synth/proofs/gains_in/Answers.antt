@@ -1,5 +1,5 @@
 -- `string_synth::gains_in` meets its contract. Assumes nothing.
-use Rattle.std.proofs.Common.{[], ◌∷◌, rules}
+use Rattle.std.proofs.Common.{[], ◌∷◌}
 use Rattle.ranges.proofs.AllOf.{joined_all}
 use Rattle.string_synth.specs.Block.{gains_in}
 use Rattle.string_synth.proofs.gains_in.Goals as goal

@@ -1,6 +1,5 @@
 -- `string_synth::glides` meets its contract. Assumes nothing.
 use mathlib.Core.Bool.{and-true}
-use Rattle.std.proofs.Common.{rules}
 use Rattle.ranges.specs.Ranges.{all_of}
 use Rattle.string_synth.proofs.glides.Goals as goal
 

@@ -1,12 +1,10 @@
 -- `string_synth::play` meets its contract: the loop's law is `block`'s, for any oscillator, and the starts that it keeps are those of the state's segment. Assumes nothing.
-use Rattle.std.proofs.Common.{◌≡◌, ◌-◌, length, nat_abs, sym, ◌∙◌, arith, lit<, rules}
-use Rattle.block.proofs.Turns.{Turning, turning_start, turning_place, turning_more, turning_quiet, turning_end}
+use Rattle.std.proofs.Common.{◌≡◌, ◌-◌, length, nat_abs}
+use Rattle.block.proofs.Turns.{Turning}
 use Rattle.string_synth.specs.Sample.{sample_at}
 use Rattle.string_synth.specs.Block.{rooms}
 use Rattle.string_synth.specs.Private.{Valid}
-use Rattle.string_synth.proofs.Keeping.{keeps}
-use Rattle.string_synth.proofs.Segments.{reached_small}
-use Rattle.string_synth.proofs.Stays.{starts_of, held_segment, cast_segment, quiet_made, quiet_starts, sampled_segment}
+use Rattle.string_synth.proofs.Stays.{starts_of}
 use Rattle.string_synth.proofs.play.Given as goal
 
 abbrev pub invariant-loop-i : goal.invariant-loop-i

@@ -1,6 +1,5 @@
 -- `string_synth::registration_in` meets its contract: the loop's law stands in `Registrations`. Assumes nothing.
-use Rattle.std.proofs.Common.{◌-◌, length, rules}
-use Rattle.string_synth.proofs.Registrations.{Tested, tested_start, tested_more, tested_end}
+use Rattle.string_synth.proofs.Registrations.{tested_start, tested_more, tested_end}
 use Rattle.string_synth.proofs.registration_in.Goals as goal
 
 pub loop-i-init : goal.loop-i-init

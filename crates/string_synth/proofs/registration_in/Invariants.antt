@@ -1,6 +1,6 @@
 -- `string_synth::registration_in` meets its contract: the loop's law stands in `Registrations`. Assumes nothing.
-use Rattle.std.proofs.Common.{◌-◌, length, rules}
-use Rattle.string_synth.proofs.Registrations.{Tested, tested_start, tested_more, tested_end}
+use Rattle.std.proofs.Common.{◌-◌, length}
+use Rattle.string_synth.proofs.Registrations.{Tested}
 use Rattle.string_synth.proofs.registration_in.Given as goal
 
 abbrev pub invariant-loop-i : goal.invariant-loop-i

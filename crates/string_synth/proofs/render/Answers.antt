@@ -1,5 +1,5 @@
 -- `string_synth::render` meets its contract: each way out is the definition's. Assumes nothing.
-use Rattle.std.proofs.Common.{not, [], sym, refl, ap, ◌∙◌, rules, eq-eqb, ne_eqb, le-leb}
+use Rattle.std.proofs.Common.{not, [], sym, refl, ap, ◌∙◌, eq-eqb, ne_eqb, le-leb}
 use borrow.Author.Tests.{lt-leb}
 use Rattle.block.specs.Checks.{here, later}
 use Rattle.floats.proofs.Bools.{holds}

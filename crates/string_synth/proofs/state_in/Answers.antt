@@ -1,5 +1,5 @@
 -- `string_synth::state_in` meets its contract. Assumes nothing.
-use Rattle.std.proofs.Common.{[], ◌∷◌, rules}
+use Rattle.std.proofs.Common.{[], ◌∷◌}
 use Rattle.ranges.proofs.AllOf.{joined_all}
 use Rattle.string_synth.specs.Block.{state_in}
 use Rattle.string_synth.proofs.state_in.Goals as goal

@@ -1,5 +1,4 @@
 -- `string_synth_face::render` meets its contract: the string synth's own call, put into words. Assumes nothing.
-use borrow.Author.Rules.{rules}
 use Rattle.words.proofs.Faces.{face_is}
 use Rattle.string_synth_face.proofs.render.Goals as goal
 

@@ -1,6 +1,5 @@
 -- `string_synth_face::words_of` meets its contract: field by field. Assumes nothing.
 use mir.Facts.{to_z-of_z}
-use borrow.Author.Rules.{rules}
 use Rattle.string_synth_face.specs.Words.{words_of}
 use Rattle.string_synth_face.proofs.words_of.Goals as goal
 

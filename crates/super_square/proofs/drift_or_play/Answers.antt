@@ -1,6 +1,5 @@
 -- `super_square::drift_or_play` meets its contract: what `find_drift` tells decides, as in the definition. Assumes nothing.
 use mathlib.Core.Path.{◌∙◌}
-use borrow.Author.Rules.{rules}
 use Rattle.block.proofs.Runs.{finds_drift, finds_playable, finds_none}
 use Rattle.super_square.proofs.drift_or_play.Goals as goal
 

@@ -1,14 +1,8 @@
 -- `super_square::play` meets its contract: the loop's law is `block`'s, for any oscillator. Assumes nothing.
 use mathlib.Core.Path.{sym, ◌∙◌}
-use Prim.Native.Nat.{◌-◌}
 use native.Mathlib.Omega.{arith}
 use lib.Dec.{lit<}
-use lib.ListN.{length}
-use borrow.Author.Rules.{rules}
-use Rattle.block.proofs.Turns.{Turning, turning_start, turning_place, turning_inside, turning_more, turning_quiet, turning_end}
-use Rattle.super_square.specs.Sample.{sample_at}
-use Rattle.super_square.specs.Block.{rooms}
-use Rattle.super_square.specs.Private.{Valid}
+use Rattle.block.proofs.Turns.{turning_start, turning_place, turning_inside, turning_more, turning_quiet, turning_end}
 use Rattle.super_square.proofs.Samples.{quiet_made}
 use Rattle.super_square.proofs.Keeping.{law_of, keeps}
 use Rattle.super_square.proofs.play.Goals as goal

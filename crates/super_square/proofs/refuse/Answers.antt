@@ -1,6 +1,5 @@
 -- `super_square::refuse` meets its contract. Assumes nothing.
 use mathlib.Core.Path.{refl}
-use borrow.Author.Rules.{rules}
 use Rattle.super_square.proofs.refuse.Goals as goal
 
 pub returns : goal.returns

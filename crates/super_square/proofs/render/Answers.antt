@@ -10,7 +10,6 @@ use Rattle.super_square.specs.Block.{super_square}
 use Rattle.super_square.specs.Private.{courses}
 use Rattle.super_square.proofs.Calls.{valid_of}
 use Rattle.super_square.proofs.Courses.{presumed}
-use borrow.Author.Rules.{rules}
 use Rattle.super_square.proofs.render.Goals as goal
 
 pub returns-then-out-gt4096 : goal.returns-then-out-gt4096

@@ -1,6 +1,5 @@
 -- `super_square_face::render` meets its contract: the super square's own call, put into words. Assumes nothing.
 use mathlib.Core.Path.{◌∙◌, sym}
-use borrow.Author.Rules.{rules}
 use Rattle.words.proofs.Faces.{face_is}
 use Rattle.super_square_face.proofs.render.Goals as goal
 

@@ -1,5 +1,4 @@
 -- `super_square_face::state_of` meets its contract: field by field. Assumes nothing.
-use borrow.Author.Rules.{rules}
 use Rattle.super_square_face.specs.Words.{state_of}
 use Rattle.super_square_face.proofs.state_of.Goals as goal
 

@@ -1,5 +1,4 @@
 -- `super_square_face::words_of` meets its contract: field by field. Assumes nothing.
-use borrow.Author.Rules.{rules}
 use Rattle.super_square_face.specs.Words.{words_of}
 use Rattle.super_square_face.proofs.words_of.Goals as goal
 

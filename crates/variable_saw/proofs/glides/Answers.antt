@@ -1,6 +1,5 @@
 -- `variable_saw::glides` meets its contract. Assumes nothing.
 use mathlib.Core.Bool.{and-true}
-use borrow.Author.Rules.{rules}
 use Rattle.ranges.specs.Ranges.{all_of}
 use Rattle.variable_saw.proofs.glides.Goals as goal
 

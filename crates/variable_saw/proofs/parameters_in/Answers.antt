@@ -2,7 +2,6 @@
 use mathlib.Core.List.{[], ◌∷◌}
 use Rattle.ranges.proofs.AllOf.{joined_all}
 use Rattle.variable_saw.specs.Block.{parameters_in}
-use borrow.Author.Rules.{rules}
 use Rattle.variable_saw.proofs.parameters_in.Goals as goal
 
 pub returns : goal.returns

@@ -1,6 +1,5 @@
 -- `variable_saw::refuse` meets its contract. Assumes nothing.
 use mathlib.Core.Path.{refl}
-use borrow.Author.Rules.{rules}
 use Rattle.variable_saw.proofs.refuse.Goals as goal
 
 pub returns : goal.returns

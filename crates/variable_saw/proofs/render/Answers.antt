@@ -10,7 +10,6 @@ use Rattle.variable_saw.specs.Block.{variable_saw}
 use Rattle.variable_saw.specs.Private.{courses}
 use Rattle.variable_saw.proofs.Calls.{valid_of}
 use Rattle.variable_saw.proofs.Courses.{presumed}
-use borrow.Author.Rules.{rules}
 use Rattle.variable_saw.proofs.render.Goals as goal
 
 pub returns-then-out-gt4096 : goal.returns-then-out-gt4096

@@ -1,5 +1,4 @@
 -- `variable_saw::saw_phase_in` meets its contract: each way of the test is the definition's. Assumes nothing.
-use borrow.Author.Rules.{rules}
 use Rattle.variable_saw.proofs.saw_phase_in.Goals as goal
 
 pub returns-then-high : goal.returns-then-high

@@ -1,5 +1,4 @@
 -- `variable_saw_face::init` meets its contract: the words of the oscillator's own initial state. Assumes nothing.
-use borrow.Author.Rules.{rules}
 use Rattle.variable_saw_face.proofs.init.Goals as goal
 
 pub returns : goal.returns

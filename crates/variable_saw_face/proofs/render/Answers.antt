@@ -1,6 +1,5 @@
 -- `variable_saw_face::render` meets its contract: the variable saw's own call, put into words. Assumes nothing.
 use mathlib.Core.Path.{◌∙◌, sym}
-use borrow.Author.Rules.{rules}
 use Rattle.words.proofs.Faces.{face_is}
 use Rattle.variable_saw_face.proofs.render.Goals as goal
 

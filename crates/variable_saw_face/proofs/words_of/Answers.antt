@@ -1,5 +1,4 @@
 -- `variable_saw_face::words_of` meets its contract: field by field. Assumes nothing.
-use borrow.Author.Rules.{rules}
 use Rattle.variable_saw_face.specs.Words.{words_of}
 use Rattle.variable_saw_face.proofs.words_of.Goals as goal
 

@@ -1,6 +1,5 @@
 -- `variable_shape::glides` meets its contract. Assumes nothing.
 use mathlib.Core.Bool.{and-true, and_assoc}
-use borrow.Author.Rules.{rules}
 use Rattle.ranges.specs.Ranges.{all_of}
 use Rattle.variable_shape.proofs.glides.Goals as goal
 

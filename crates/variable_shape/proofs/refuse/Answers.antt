@@ -1,6 +1,5 @@
 -- `variable_shape::refuse` meets its contract. Assumes nothing.
 use mathlib.Core.Path.{refl}
-use borrow.Author.Rules.{rules}
 use Rattle.variable_shape.proofs.refuse.Goals as goal
 
 pub returns : goal.returns

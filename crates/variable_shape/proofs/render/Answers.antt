@@ -10,7 +10,6 @@ use Rattle.rooms.specs.declared.Glides.{Glides}
 use Rattle.block.proofs.Runs.{guarded}
 use Rattle.variable_shape.specs.Private.{courses}
 use Rattle.variable_shape.proofs.Courses.{course_rooms, course_glides, presumed}
-use borrow.Author.Rules.{rules}
 use Rattle.variable_shape.proofs.render.Goals as goal
 
 pub returns-then-out-gt4096 : goal.returns-then-out-gt4096

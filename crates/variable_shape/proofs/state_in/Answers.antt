@@ -2,7 +2,6 @@
 use Rattle.variable_shape.specs.Block.{state_in}
 use mathlib.Core.List.{[], ◌∷◌}
 use Rattle.ranges.proofs.AllOf.{joined_all}
-use borrow.Author.Rules.{rules}
 use Rattle.variable_shape.proofs.state_in.Goals as goal
 
 pub returns : goal.returns

@@ -1,6 +1,5 @@
 -- `variable_shape_face::render` meets its contract: the variable shape's own call, put into words. Assumes nothing.
 use mathlib.Core.Path.{◌∙◌, sym}
-use borrow.Author.Rules.{rules}
 use Rattle.words.proofs.Faces.{face_is}
 use Rattle.variable_shape_face.proofs.render.Goals as goal
 

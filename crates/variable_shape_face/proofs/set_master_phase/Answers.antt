@@ -1,5 +1,4 @@
 -- `variable_shape_face::set_master_phase` meets its contract: the variable shape's own setting, put into one word. Assumes nothing.
-use borrow.Author.Rules.{rules}
 use Rattle.variable_shape_face.proofs.MasterPhase.{set_is}
 use Rattle.variable_shape_face.proofs.set_master_phase.Goals as goal
 

@@ -1,5 +1,4 @@
 -- `variable_shape_face::state_of` meets its contract: field by field. Assumes nothing.
-use borrow.Author.Rules.{rules}
 use Rattle.variable_shape_face.specs.Words.{state_of}
 use Rattle.variable_shape_face.proofs.state_of.Goals as goal
 

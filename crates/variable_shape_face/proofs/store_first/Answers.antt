@@ -1,5 +1,4 @@
 -- `variable_shape_face::store_first` meets its contract. Assumes nothing.
-use borrow.Author.Rules.{rules}
 use borrow.Author.Tests.{eq-eqb, ne_eqb}
 use Rattle.variable_shape_face.proofs.store_first.Goals as goal
 

@@ -1,10 +1,8 @@
 -- `wave::all_numbers` meets its contract. The loop's invariant: what is asked of the whole is asked of the samples from `i` on. Assumes nothing.
 use Prim.Native.Nat.{◌-◌}
-use mathlib.Core.Path.{◌≡◌, refl, sym, ◌∙◌}
-use borrow.Author.Rules.{rules}
+use mathlib.Core.Path.{◌≡◌}
 use lib.ListN.{length, drop}
 use Rattle.wave.specs.Write.{all_numbers}
-use Rattle.wave.proofs.Numbers.{numbers_stop, numbers_more, numbers_end}
 use Rattle.wave.proofs.all_numbers.Given as goal
 
 abbrev pub invariant-loop-i : goal.invariant-loop-i

@@ -1,5 +1,4 @@
 -- `wave::is_fit` meets its contract. Assumes nothing.
-use borrow.Author.Rules.{rules}
 use Rattle.wave.proofs.is_fit.Goals as goal
 
 pub returns : goal.returns

@@ -1,5 +1,4 @@
 -- `wave::put` meets its contract: the header is copied, and the samples come after it. Assumes nothing.
-use borrow.Author.Rules.{rules}
 use mathlib.Core.Path.{◌≡◌, ap, ◌∙◌}
 use Prim.Native.Nat.{◌*◌}
 use lib.ListN.{length}

@@ -1,10 +1,9 @@
 -- `wave::put_samples` meets its contract: the loop puts sample by sample. The measure is how many are left. Assumes nothing.
 use mathlib.Core.Path.{ap, ◌∙◌}
-use Prim.Native.Nat.{ℕ, ◌-◌, ◌/◌, ◌%◌}
-use borrow.Author.Rules.{rules}
+use Prim.Native.Nat.{ℕ, ◌/◌, ◌%◌}
 use native.Mathlib.Omega.{arith}
-use lib.ListN.{length, length-set}
-use Rattle.wave.proofs.Putting.{Put, put_start, put_more, put_end}
+use lib.ListN.{length-set}
+use Rattle.wave.proofs.Putting.{put_start, put_more, put_end}
 use Rattle.wave.proofs.put_samples.Goals as goal
 
 pub loop-i-init : goal.loop-i-init

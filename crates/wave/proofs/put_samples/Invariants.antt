@@ -1,10 +1,7 @@
 -- `wave::put_samples` meets its contract: the loop puts sample by sample. The measure is how many are left. Assumes nothing.
-use mathlib.Core.Path.{ap, ◌∙◌}
-use Prim.Native.Nat.{ℕ, ◌-◌, ◌/◌, ◌%◌}
-use borrow.Author.Rules.{rules}
-use native.Mathlib.Omega.{arith}
-use lib.ListN.{length, length-set}
-use Rattle.wave.proofs.Putting.{Put, put_start, put_more, put_end}
+use Prim.Native.Nat.{◌-◌}
+use lib.ListN.{length}
+use Rattle.wave.proofs.Putting.{Put}
 use Rattle.wave.proofs.put_samples.Given as goal
 
 abbrev pub invariant-loop-i : goal.invariant-loop-i

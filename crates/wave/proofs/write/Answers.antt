@@ -1,11 +1,8 @@
 -- `wave::write` meets its contract: two refusals, and the stem. Assumes nothing.
-use mathlib.Core.Path.{◌≡◌, sym, ◌∙◌}
-use mathlib.Core.Bool.{true}
+use mathlib.Core.Path.{sym, ◌∙◌}
 use Prim.Native.Nat.{◌≤◌}
 use lib.ListN.{length}
 use native.Mathlib.Omega.{arith}
-use borrow.Author.Rules.{rules}
-use Rattle.wave.specs.Write.{is_fit}
 use Rattle.wave.proofs.Ways.{unfit_way, short_way, written_way, fit_small}
 use Rattle.wave.proofs.write.Goals as goal
 

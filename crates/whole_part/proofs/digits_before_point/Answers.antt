@@ -1,6 +1,5 @@
 -- `whole_part::digits_before_point` meets its contract: the bits are an exponent's field and 23 digits, of which the shift drops those behind the point. Assumes nothing.
 use native.Mathlib.Omega.{arith}
-use borrow.Author.Rules.{rules}
 use Rattle.floats.specs.F32.{one32}
 use Rattle.floats.proofs.Order.{numbers}
 use Rattle.whole_part.proofs.Digits.{between, field_range, whole_is}

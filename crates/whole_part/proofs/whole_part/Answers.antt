@@ -1,7 +1,6 @@
 -- `whole_part::whole_part` meets its contract: from 131,072 up and below 1 by the order of floats, and between by the digits. Assumes nothing.
 use mathlib.Core.Path.{refl}
 use lib.Ieee.{is_nan, of_bits}
-use borrow.Author.Rules.{rules}
 use Rattle.floats.specs.F32.{f32, one32}
 use Rattle.floats.proofs.Order.{numbers, not_le_lt}
 use Rattle.whole_part.proofs.Outside.{above, below}

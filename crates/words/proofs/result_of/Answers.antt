@@ -1,6 +1,5 @@
 -- `words::result_of` meets its contract: three of its words are what `block` tells. Assumes nothing.
 use Rattle.words.proofs.Faces.{result_is}
-use borrow.Author.Rules.{rules}
 use Rattle.words.proofs.result_of.Goals as goal
 
 pub returns : goal.returns

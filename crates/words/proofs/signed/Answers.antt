@@ -1,6 +1,5 @@
 -- `words::signed` meets its contract. Assumes nothing.
 use Rattle.words.proofs.Words.{signed_of_low, high_fits, signed_of_high}
-use borrow.Author.Rules.{rules}
 use Rattle.words.proofs.signed.Goals as goal
 
 pub overflow_sub-result-else-word-lt2147483648 : goal.overflow_sub-result-else-word-lt2147483648

@@ -1,5 +1,4 @@
 -- `words::stores` meets its contract. Assumes nothing.
-use borrow.Author.Rules.{rules}
 use Rattle.words.proofs.stores.Goals as goal
 
 pub returns : goal.returns

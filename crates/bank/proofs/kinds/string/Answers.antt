@@ -1,7 +1,6 @@
 -- `bank::kinds::string` meets its contract: the state and the outcome are the call's. Assumes nothing.
 use mathlib.Core.Path.{ap}
 use Rattle.bank.specs.Bank.{with_string, played, string_played}
-use borrow.Author.Rules.{rules}
 use Rattle.bank.proofs.kinds.string.Goals as goal
 
 pub returns : goal.returns

@@ -1,6 +1,5 @@
 -- `bank::kinds::told` meets its contract. Assumes nothing.
 use mathlib.Core.Path.{refl}
-use borrow.Author.Rules.{rules}
 use Rattle.bank.proofs.kinds.told.Goals as goal
 
 pub returns : goal.returns

@@ -1,6 +1,5 @@
 -- `classic::edges_of::edges_of` meets its contract: each arm is the definition's. Assumes nothing.
 use Rattle.classic.specs.Edges.{edges_of}
-use Rattle.std.proofs.Common.{rules}
 use Rattle.classic.proofs.edges_of.edges_of.Goals as goal
 
 pub returns-in-ImpulseTrain : goal.returns-in-ImpulseTrain

@@ -1,5 +1,5 @@
 -- `classic::edges_of::saw_edges` meets its contract: each way of the test is the definition's. Assumes nothing.
-use Rattle.std.proofs.Common.{refl, rules}
+use Rattle.std.proofs.Common.{refl}
 use Rattle.classic.specs.Edges.{saw_edges}
 use Rattle.classic.proofs.edges_of.saw_edges.Goals as goal
 

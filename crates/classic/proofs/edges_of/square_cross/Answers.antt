@@ -1,5 +1,5 @@
 -- `classic::edges_of::square_cross` meets its contract. Assumes nothing.
-use Rattle.std.proofs.Common.{refl, rules}
+use Rattle.std.proofs.Common.{refl}
 use Rattle.classic.specs.Edges.{square_cross}
 use Rattle.classic.proofs.edges_of.square_cross.Goals as goal
 

@@ -1,5 +1,5 @@
 -- `classic::edges_of::square_edges` meets its contract: the width, and then the end of the cycle. Assumes nothing.
-use Rattle.std.proofs.Common.{refl, rules}
+use Rattle.std.proofs.Common.{refl}
 use Rattle.classic.specs.Edges.{square_edges}
 use Rattle.classic.proofs.edges_of.square_edges.Goals as goal
 

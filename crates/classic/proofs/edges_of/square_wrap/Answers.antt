@@ -1,5 +1,5 @@
 -- `classic::edges_of::square_wrap` meets its contract. Assumes nothing.
-use Rattle.std.proofs.Common.{refl, rules}
+use Rattle.std.proofs.Common.{refl}
 use Rattle.classic.specs.Edges.{square_wrap}
 use Rattle.classic.proofs.edges_of.square_wrap.Goals as goal
 

@@ -1,5 +1,5 @@
 -- `classic::edges_of::triangle_cross` meets its contract. Assumes nothing.
-use Rattle.std.proofs.Common.{refl, rules}
+use Rattle.std.proofs.Common.{refl}
 use Rattle.classic.specs.Edges.{triangle_cross}
 use Rattle.classic.proofs.edges_of.triangle_cross.Goals as goal
 

@@ -1,5 +1,5 @@
 -- `classic::edges_of::triangle_edges` meets its contract: the width, and then the end of the cycle. Assumes nothing.
-use Rattle.std.proofs.Common.{refl, rules}
+use Rattle.std.proofs.Common.{refl}
 use Rattle.classic.specs.Edges.{triangle_edges}
 use Rattle.classic.proofs.edges_of.triangle_edges.Goals as goal
 

@@ -1,5 +1,5 @@
 -- `classic::edges_of::triangle_width` meets its contract: each way of the test is the definition's. Assumes nothing.
-use Rattle.std.proofs.Common.{refl, rules}
+use Rattle.std.proofs.Common.{refl}
 use mathlib.Core.Bool.{xor}
 use Rattle.classic.specs.Edges.{triangle_at_width}
 use Rattle.classic.proofs.edges_of.triangle_width.Goals as goal

@@ -1,6 +1,5 @@
 -- `classic::output::put_out` meets its contract: each arm is the definition's. Assumes nothing.
 use Rattle.classic.specs.Output.{output_of}
-use Rattle.std.proofs.Common.{rules}
 use Rattle.classic.proofs.output.put_out.Goals as goal
 
 pub returns-in-ImpulseTrain : goal.returns-in-ImpulseTrain

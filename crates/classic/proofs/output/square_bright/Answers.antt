@@ -1,5 +1,5 @@
 -- `classic::output::square_bright` meets its contract. Assumes nothing.
-use Rattle.std.proofs.Common.{refl, rules}
+use Rattle.std.proofs.Common.{refl}
 use Rattle.classic.specs.Output.{square_bright}
 use Rattle.classic.proofs.output.square_bright.Goals as goal
 

@@ -1,5 +1,5 @@
 -- `classic::output::square_dark` meets its contract. Assumes nothing.
-use Rattle.std.proofs.Common.{refl, rules}
+use Rattle.std.proofs.Common.{refl}
 use Rattle.classic.specs.Output.{square_dark}
 use Rattle.classic.proofs.output.square_dark.Goals as goal
 

@@ -1,5 +1,5 @@
 -- `classic::output::square_triangle` meets its contract. Assumes nothing.
-use Rattle.std.proofs.Common.{refl, rules}
+use Rattle.std.proofs.Common.{refl}
 use Rattle.classic.specs.Output.{square_triangle}
 use Rattle.classic.proofs.output.square_triangle.Goals as goal
 

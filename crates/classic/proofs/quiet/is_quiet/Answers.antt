@@ -1,5 +1,4 @@
 -- `classic::quiet::is_quiet` meets its contract. Assumes nothing.
-use Rattle.std.proofs.Common.{rules}
 use Rattle.classic.proofs.quiet.is_quiet.Goals as goal
 
 pub returns : goal.returns

@@ -1,5 +1,5 @@
 -- `classic::quiet::sample` meets its contract: under its test it is what the definition gives. Assumes nothing.
-use Rattle.std.proofs.Common.{sym, rules}
+use Rattle.std.proofs.Common.{sym}
 use Rattle.classic.specs.Sample.{finish}
 use Rattle.classic.proofs.Samples.{sample_quiet}
 use Rattle.classic.proofs.quiet.sample.Goals as goal

@@ -1,6 +1,5 @@
 -- `classic::quiet::turns` meets its contract: each arm is the definition's. Assumes nothing.
 use mathlib.Core.Bool.{xor}
-use Rattle.std.proofs.Common.{rules}
 use Rattle.classic.proofs.quiet.turns.Goals as goal
 
 pub returns-in-ImpulseTrain : goal.returns-in-ImpulseTrain

@@ -1,5 +1,5 @@
 -- `classic::sample::finish` meets its contract. Assumes nothing.
-use Rattle.std.proofs.Common.{refl, rules}
+use Rattle.std.proofs.Common.{refl}
 use Rattle.classic.specs.Sample.{finish}
 use Rattle.classic.proofs.sample.finish.Goals as goal
 

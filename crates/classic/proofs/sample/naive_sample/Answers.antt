@@ -1,6 +1,5 @@
 -- `classic::sample::naive_sample` meets its contract: each arm is the definition's. Assumes nothing.
 use Rattle.classic.specs.Sample.{naive}
-use Rattle.std.proofs.Common.{rules}
 use Rattle.classic.proofs.sample.naive_sample.Goals as goal
 
 pub returns-in-ImpulseTrain : goal.returns-in-ImpulseTrain

@@ -1,5 +1,5 @@
 -- `classic::sample::sample` meets its contract. Assumes nothing.
-use Rattle.std.proofs.Common.{refl, rules}
+use Rattle.std.proofs.Common.{refl}
 use Rattle.classic.specs.Sample.{sample_of}
 use Rattle.classic.proofs.sample.sample.Goals as goal
 

@@ -1,5 +1,5 @@
 -- `classic::shapes::shape_of` meets its contract: each number has its place in the list, and every other none. Assumes nothing.
-use Rattle.std.proofs.Common.{◌≤◌, sym, arith}
+use Rattle.std.proofs.Common.{sym, arith}
 use lib.ListN.{get_or-eq_default}
 use Rattle.classic.specs.declared.shapes.Named.TheVariants.{NoShape}
 use Rattle.classic.specs.Shapes.{in_order}

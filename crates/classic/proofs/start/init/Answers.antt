@@ -1,5 +1,5 @@
 -- `classic::start::init` meets its contract: each way of the test is the definition's. Assumes nothing.
-use Rattle.std.proofs.Common.{sym, refl, ◌∙◌, rules}
+use Rattle.std.proofs.Common.{sym, refl, ◌∙◌}
 use Rattle.classic.proofs.start.init.Goals as goal
 
 pub returns-then-within : goal.returns-then-within

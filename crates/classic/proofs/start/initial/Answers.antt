@@ -1,5 +1,5 @@
 -- `classic::start::initial` meets its contract. Assumes nothing.
-use Rattle.std.proofs.Common.{refl, rules}
+use Rattle.std.proofs.Common.{refl}
 use Rattle.classic.proofs.start.initial.Goals as goal
 
 pub returns : goal.returns

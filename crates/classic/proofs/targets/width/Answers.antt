@@ -1,5 +1,5 @@
 -- `classic::targets::width` meets its contract. Assumes nothing.
-use Rattle.std.proofs.Common.{refl, rules}
+use Rattle.std.proofs.Common.{refl}
 use Rattle.classic.proofs.targets.width.Goals as goal
 
 pub returns : goal.returns

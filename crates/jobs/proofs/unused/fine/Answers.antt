@@ -1,5 +1,4 @@
 -- `jobs::unused::fine` meets its contract. Assumes nothing.
-use borrow.Author.Rules.{rules}
 use Rattle.jobs.proofs.unused.fine.Goals as goal
 
 pub returns : goal.returns

@@ -1,9 +1,5 @@
 -- `jobs::unused::zero` meets its contract. The loop's invariant: what is asked of the whole is asked of the bytes from `i` on. Assumes nothing.
-use Prim.Native.Nat.{◌-◌}
-use mathlib.Core.Path.{◌≡◌, refl, sym, ◌∙◌}
-use borrow.Author.Rules.{rules}
-use lib.ListN.{length, drop}
-use Rattle.jobs.specs.Fields.{unused_zero, unused_zero_from}
+use mathlib.Core.Path.{refl, sym, ◌∙◌}
 use Rattle.jobs.proofs.ByteByByte.{unused_step, unused_end}
 use Rattle.jobs.proofs.unused.zero.Goals as goal
 

@@ -1,11 +1,8 @@
 -- `jobs::unused::zero` meets its contract. The loop's invariant: what is asked of the whole is asked of the bytes from `i` on. Assumes nothing.
 use Prim.Native.Nat.{◌-◌}
-use mathlib.Core.Path.{◌≡◌, refl, sym, ◌∙◌}
-use borrow.Author.Rules.{rules}
-use borrow.Author.Tests.{not-true, not-false}
+use mathlib.Core.Path.{◌≡◌}
 use lib.ListN.{length, drop}
 use Rattle.jobs.specs.Fields.{unused_zero, unused_zero_from}
-use Rattle.jobs.proofs.ByteByByte.{unused_step, unused_end}
 use Rattle.jobs.proofs.unused.zero.Given as goal
 
 abbrev pub invariant-loop-i : goal.invariant-loop-i

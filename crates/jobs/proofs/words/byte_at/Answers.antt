@@ -1,6 +1,5 @@
 -- `jobs::words::byte_at` meets its contract, past the end too. Assumes nothing.
 use Rattle.jobs.proofs.Past.{byte_past}
-use borrow.Author.Rules.{rules}
 use Rattle.jobs.proofs.words.byte_at.Goals as goal
 
 pub returns-else-i-part : goal.returns-else-i-part

@@ -1,6 +1,5 @@
 -- `jobs::words::float_at` meets its contract. Assumes nothing.
 use Rattle.jobs.specs.Words.{float_at}
-use borrow.Author.Rules.{rules}
 use Rattle.jobs.proofs.words.float_at.Goals as goal
 
 pub returns : goal.returns

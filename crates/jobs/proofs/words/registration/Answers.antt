@@ -1,6 +1,5 @@
 -- `jobs::words::registration` meets its contract: its seven floats stand one after the other. Assumes nothing.
 use Rattle.jobs.specs.Words.{floats_at}
-use borrow.Author.Rules.{rules}
 use Rattle.jobs.proofs.words.registration.Goals as goal
 
 pub returns : goal.returns

@@ -1,5 +1,4 @@
 -- `navuloqu::stems::navuloqu_3_wave_write` meets its contract: `write`'s, with the answer's number. Assumes nothing.
-use borrow.Author.Rules.{rules}
 use Rattle.navuloqu.proofs.stems.navuloqu_3_wave_write.Goals as goal
 
 pub returns : goal.returns

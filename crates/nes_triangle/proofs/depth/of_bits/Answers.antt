@@ -1,5 +1,5 @@
 -- `nes_triangle::depth::of_bits` meets its contract. Assumes nothing.
-use Rattle.std.proofs.Common.{refl, pow_pos, rules}
+use Rattle.std.proofs.Common.{refl, pow_pos}
 use Rattle.nes_triangle.specs.Depth.{depth_of}
 use Rattle.nes_triangle.proofs.Depths.{two_steps, top_some}
 use Rattle.nes_triangle.proofs.depth.of_bits.Goals as goal

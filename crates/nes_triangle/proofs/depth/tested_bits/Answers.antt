@@ -1,5 +1,5 @@
 -- `nes_triangle::depth::tested_bits` meets its contract: each way of the test is the definition's. Assumes nothing.
-use Rattle.std.proofs.Common.{sym, ◌∙◌, arith, rules}
+use Rattle.std.proofs.Common.{sym, ◌∙◌, arith}
 use Rattle.nes_triangle.proofs.Depths.{tested_few}
 use Rattle.nes_triangle.proofs.depth.tested_bits.Goals as goal
 

@@ -1,5 +1,5 @@
 -- `nes_triangle::depth::top` meets its contract: each way of the test is the definition's. Assumes nothing.
-use Rattle.std.proofs.Common.{rules, eq-eqb, ne_eqb}
+use Rattle.std.proofs.Common.{eq-eqb, ne_eqb}
 use Rattle.nes_triangle.proofs.depth.top.Goals as goal
 
 pub returns-then-num_steps-ne2 : goal.returns-then-num_steps-ne2

@@ -1,5 +1,5 @@
 -- `nes_triangle::quiet::hold` meets its contract: the step is none below 0. Assumes nothing.
-use Rattle.std.proofs.Common.{refl, arith, rules}
+use Rattle.std.proofs.Common.{refl, arith}
 use Rattle.nes_triangle.proofs.Held.{step_back}
 use Rattle.nes_triangle.proofs.quiet.hold.Goals as goal
 

@@ -1,5 +1,5 @@
 -- `nes_triangle::quiet::sample` meets its contract: under its test it is what the definition gives. Assumes nothing.
-use Rattle.std.proofs.Common.{sym, to_z-of_z, w32, rules}
+use Rattle.std.proofs.Common.{sym, to_z-of_z, w32}
 use Rattle.nes_triangle.proofs.Held.{sample_quiet}
 use Rattle.nes_triangle.proofs.quiet.sample.Goals as goal
 

@@ -1,6 +1,5 @@
 -- `nes_triangle::sample::fade` meets its contract. Assumes nothing.
 use Rattle.nes_triangle.specs.Sample.{gains_of}
-use Rattle.std.proofs.Common.{rules}
 use Rattle.nes_triangle.proofs.sample.fade.Goals as goal
 
 pub returns : goal.returns

@@ -1,5 +1,5 @@
 -- `nes_triangle::sample::finish` meets its contract. Assumes nothing.
-use Rattle.std.proofs.Common.{pos, arith, to_z-of_z, w32, SFits, rules}
+use Rattle.std.proofs.Common.{pos, arith, to_z-of_z, w32, SFits}
 use Rattle.nes_triangle.specs.Sample.{finish}
 use Rattle.nes_triangle.specs.Private.{reached_of}
 use Rattle.nes_triangle.proofs.sample.finish.Goals as goal

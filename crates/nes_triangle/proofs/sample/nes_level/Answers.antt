@@ -1,5 +1,5 @@
 -- `nes_triangle::sample::nes_level` meets its contract: each way of the test is the definition's. Assumes nothing.
-use Rattle.std.proofs.Common.{arith, rules, le-ltb, lt-ltb}
+use Rattle.std.proofs.Common.{arith, le-ltb, lt-ltb}
 use Rattle.nes_triangle.proofs.sample.nes_level.Goals as goal
 
 pub returns-then-step-half : goal.returns-then-step-half

@@ -1,5 +1,5 @@
 -- `nes_triangle::sample::reach` meets its contract: each way of the test is the definition's. Assumes nothing.
-use Rattle.std.proofs.Common.{sym, ◌∙◌, rules}
+use Rattle.std.proofs.Common.{sym, ◌∙◌}
 use Rattle.nes_triangle.proofs.Stepping.{turnable}
 use Rattle.nes_triangle.proofs.Reaching.{reach_still, reach_turned}
 use Rattle.nes_triangle.proofs.sample.reach.Goals as goal

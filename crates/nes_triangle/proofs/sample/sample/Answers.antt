@@ -2,7 +2,6 @@
 use Rattle.nes_triangle.proofs.Stepping.{finishable}
 use Rattle.nes_triangle.specs.Sample.{stepped_of, sound_of, sample_of}
 use Rattle.nes_triangle.specs.Private.{reached_of, reach_of}
-use Rattle.std.proofs.Common.{rules}
 use Rattle.nes_triangle.proofs.sample.sample.Goals as goal
 
 pub finish-requires : goal.finish-requires

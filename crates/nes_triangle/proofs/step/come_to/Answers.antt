@@ -1,6 +1,5 @@
 -- `nes_triangle::step::come_to` meets its contract. Assumes nothing.
 use Rattle.nes_triangle.specs.Private.{reached_of}
-use Rattle.std.proofs.Common.{rules}
 use Rattle.nes_triangle.proofs.step.come_to.Goals as goal
 
 pub returns : goal.returns

@@ -1,6 +1,5 @@
 -- `nes_triangle::step::edge` meets its contract: each way of the test is the definition's. Assumes nothing.
 use Rattle.nes_triangle.specs.Sample.{edge_of}
-use Rattle.std.proofs.Common.{rules}
 use Rattle.nes_triangle.proofs.step.edge.Goals as goal
 
 pub returns-then-t-discontinuity : goal.returns-then-t-discontinuity

@@ -1,5 +1,5 @@
 -- `nes_triangle::step::jump` meets its contract: a gain of 0 leaves no discontinuity. Assumes nothing.
-use Rattle.std.proofs.Common.{T, sym, subst, rules}
+use Rattle.std.proofs.Common.{T, sym, subst}
 use Rattle.nes_triangle.proofs.Silent.{silent}
 use Rattle.nes_triangle.proofs.step.jump.Goals as goal
 

@@ -1,5 +1,5 @@
 -- `nes_triangle::step::step_sign` meets its contract: each way of the test is the definition's. Assumes nothing.
-use Rattle.std.proofs.Common.{ap, rules, eq-eqb, ne_eqb}
+use Rattle.std.proofs.Common.{ap, eq-eqb, ne_eqb}
 use lib.Ieee.{neg}
 use Rattle.nes_triangle.proofs.step.step_sign.Goals as goal
 

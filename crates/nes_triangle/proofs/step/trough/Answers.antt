@@ -1,6 +1,5 @@
 -- `nes_triangle::step::trough` meets its contract: each way of the test is the definition's. Assumes nothing.
 use Rattle.nes_triangle.specs.Sample.{trough_of}
-use Rattle.std.proofs.Common.{rules}
 use Rattle.nes_triangle.proofs.step.trough.Goals as goal
 
 pub returns-then-here-discontinuity : goal.returns-then-here-discontinuity

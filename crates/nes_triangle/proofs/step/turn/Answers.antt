@@ -1,5 +1,5 @@
 -- `nes_triangle::step::turn` meets its contract: each way of the test is the definition's. Assumes nothing.
-use Rattle.std.proofs.Common.{rules, le-leb}
+use Rattle.std.proofs.Common.{le-leb}
 use borrow.Author.Tests.{lt-leb}
 use Rattle.nes_triangle.specs.Sample.{trough_of}
 use Rattle.nes_triangle.specs.Private.{turned_of}

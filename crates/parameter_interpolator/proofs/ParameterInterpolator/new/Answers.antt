@@ -1,5 +1,4 @@
 -- `ParameterInterpolator::new` meets its contract: the divisor is the float nearest to the block length. Assumes nothing.
-use Rattle.std.proofs.Common.{rules}
 use Rattle.parameter_interpolator.proofs.ParameterInterpolator.new.Goals as goal
 
 pub returns : goal.returns

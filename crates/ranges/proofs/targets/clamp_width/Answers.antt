@@ -1,5 +1,4 @@
 -- `ranges::targets::clamp_width` meets its contract: each way of the test is the definition's. Assumes nothing.
-use borrow.Author.Rules.{rules}
 use Rattle.ranges.proofs.targets.clamp_width.Goals as goal
 
 pub returns-then-frequency : goal.returns-then-frequency

@@ -1,10 +1,6 @@
 -- `render::form::all_text` meets its contract. The loop's invariant: what is asked of the whole is asked of the bytes from `i` on. Assumes nothing.
-use Prim.Native.Nat.{◌-◌}
-use mathlib.Core.Path.{◌≡◌, refl, sym, ◌∙◌}
-use borrow.Author.Rules.{rules}
+use mathlib.Core.Path.{refl, sym, ◌∙◌}
 use borrow.Author.Tests.{not-true, not-false}
-use lib.ListN.{length, drop}
-use Rattle.render.specs.Form.{all_text}
 use Rattle.render.proofs.Bytes.{text_step, text_end}
 use Rattle.render.proofs.form.all_text.Goals as goal
 

@@ -1,5 +1,4 @@
 -- `render::form::looks_like_text` meets its contract. Assumes nothing.
-use borrow.Author.Rules.{rules}
 use Rattle.render.proofs.form.looks_like_text.Goals as goal
 
 pub returns : goal.returns

@@ -1,8 +1,5 @@
 -- `render::text::append` meets its contract: the loop copies byte by byte. Assumes nothing.
-use Prim.Native.Nat.{◌-◌}
-use borrow.Author.Rules.{rules}
-use lib.ListN.{length}
-use Rattle.render.proofs.Laying.{Copied, copied_start, copied_more, copied_end}
+use Rattle.render.proofs.Laying.{copied_start, copied_more, copied_end}
 use Rattle.render.proofs.text.append.Goals as goal
 
 pub loop-i-init : goal.loop-i-init

@@ -1,5 +1,4 @@
 -- `render::text::line` meets its contract: three numbers, and the counts after them. Assumes nothing.
-use borrow.Author.Rules.{rules}
 use native.Mathlib.Omega.{arith}
 use Rattle.render.specs.Line.{line_of}
 use Rattle.render.proofs.Laying.{joins}

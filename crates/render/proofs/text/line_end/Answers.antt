@@ -1,5 +1,4 @@
 -- `render::text::line_end` meets its contract: five numbers, one after the other. Assumes nothing.
-use borrow.Author.Rules.{rules}
 use native.Mathlib.Omega.{arith}
 use Rattle.render.specs.Line.{line_of}
 use Rattle.render.proofs.Laying.{joins}

@@ -4,7 +4,6 @@ use Rattle.render.specs.Line.{decimal_of}
 use lib.ListN.{length, take}
 use native.Mathlib.Omega.{arith}
 use mathlib.Core.Path.{◌≡◌, ◌∙◌, ap}
-use borrow.Author.Rules.{rules}
 use Rattle.render.proofs.text.number.Goals as goal
 
 pub append-e-requires : goal.append-e-requires

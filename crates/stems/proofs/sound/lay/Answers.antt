@@ -1,11 +1,7 @@
 -- `stems::sound::lay` meets its contract. The loop's invariant: the samples of the first `k` records are laid. Assumes nothing.
-use Prim.Native.Nat.{◌-◌}
 use native.Mathlib.Omega.{arith}
 use borrow.Author.Rules.{rules}
-use Rattle.bank.specs.Bank.{init_bank}
-use Rattle.render.specs.Lists.{records_from}
-use Rattle.stems.specs.Sound.{sound_of}
-use Rattle.stems.proofs.Laying.{Laying, laying_start, laying_more, laying_end}
+use Rattle.stems.proofs.Laying.{laying_start, laying_more, laying_end}
 use Rattle.stems.proofs.sound.lay.Goals as goal
 
 pub start-bank-requires : goal.start-bank-requires

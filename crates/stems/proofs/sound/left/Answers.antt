@@ -1,5 +1,4 @@
 -- `stems::sound::left` meets its contract. Assumes nothing.
-use borrow.Author.Rules.{rules}
 use borrow.Author.Tests.{eq-eqb, ne_eqb}
 use Rattle.stems.proofs.sound.left.Goals as goal
 

@@ -1,5 +1,5 @@
 -- `string_synth::quiet::sample` meets its contract: under its test it is what the definition gives. Assumes nothing.
-use Rattle.std.proofs.Common.{arith, rules}
+use Rattle.std.proofs.Common.{arith}
 use Rattle.string_synth.specs.Sample.{sample_of}
 use Rattle.string_synth.proofs.Stays.{held_segment, cast_segment, reach_quiet}
 use Rattle.string_synth.proofs.quiet.sample.Goals as goal

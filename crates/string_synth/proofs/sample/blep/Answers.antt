@@ -1,5 +1,5 @@
 -- `string_synth::sample::blep` meets its contract. Assumes nothing.
-use Rattle.std.proofs.Common.{refl, rules}
+use Rattle.std.proofs.Common.{refl}
 use Rattle.string_synth.specs.Sample.{blep_of}
 use Rattle.string_synth.proofs.sample.blep.Goals as goal
 

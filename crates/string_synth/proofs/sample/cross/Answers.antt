@@ -1,5 +1,5 @@
 -- `string_synth::sample::cross` meets its contract. Assumes nothing.
-use Rattle.std.proofs.Common.{refl, rules}
+use Rattle.std.proofs.Common.{refl}
 use Rattle.string_synth.specs.Sample.{crossed}
 use Rattle.string_synth.proofs.sample.cross.Goals as goal
 

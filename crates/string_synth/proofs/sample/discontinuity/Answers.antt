@@ -1,5 +1,5 @@
 -- `string_synth::sample::discontinuity` meets its contract. Assumes nothing.
-use Rattle.std.proofs.Common.{refl, rules}
+use Rattle.std.proofs.Common.{refl}
 use Rattle.string_synth.specs.Sample.{discontinuity_of}
 use Rattle.string_synth.proofs.sample.discontinuity.Goals as goal
 

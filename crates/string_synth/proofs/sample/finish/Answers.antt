@@ -1,5 +1,5 @@
 -- `string_synth::sample::finish` meets its contract. Assumes nothing.
-use Rattle.std.proofs.Common.{refl, lt_of_le_of_lt, lit<, w32, rules}
+use Rattle.std.proofs.Common.{refl, lt_of_le_of_lt, lit<, w32}
 use mir.ValLaws.{to_z_pos}
 use Rattle.string_synth.specs.Sample.{finish}
 use Rattle.string_synth.proofs.sample.finish.Goals as goal

@@ -1,6 +1,5 @@
 -- `string_synth::sample::reach` meets its contract: within the segment or into another, as the definition tests. Assumes nothing.
 use Rattle.string_synth.proofs.Segments.{reach_is}
-use Rattle.std.proofs.Common.{rules}
 use Rattle.string_synth.proofs.sample.reach.Goals as goal
 
 pub returns-then-in_segment : goal.returns-then-in_segment

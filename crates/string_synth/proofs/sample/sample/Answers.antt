@@ -1,5 +1,5 @@
 -- `string_synth::sample::sample` meets its contract. Assumes nothing.
-use Rattle.std.proofs.Common.{refl, rules}
+use Rattle.std.proofs.Common.{refl}
 use Rattle.string_synth.proofs.Segments.{reached_small}
 use Rattle.string_synth.specs.Sample.{sample_of}
 use Rattle.string_synth.proofs.sample.sample.Goals as goal

@@ -1,6 +1,5 @@
 -- `string_synth::sample::soften` meets its contract: each way of the test is the definition's. Assumes nothing.
 use Rattle.string_synth.specs.Sample.{softened}
-use Rattle.std.proofs.Common.{rules}
 use Rattle.string_synth.proofs.sample.soften.Goals as goal
 
 pub returns-then-discontinuity : goal.returns-then-discontinuity

@@ -1,5 +1,5 @@
 -- `string_synth::sample::starts_of` meets its contract. Assumes nothing.
-use Rattle.std.proofs.Common.{refl, rules}
+use Rattle.std.proofs.Common.{refl}
 use Rattle.string_synth.proofs.sample.starts_of.Goals as goal
 
 pub returns : goal.returns

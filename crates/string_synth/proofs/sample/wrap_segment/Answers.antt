@@ -1,5 +1,5 @@
 -- `string_synth::sample::wrap_segment` meets its contract: each way of the test is the definition's. Assumes nothing.
-use Rattle.std.proofs.Common.{rules, eq-eqb, ne_eqb}
+use Rattle.std.proofs.Common.{eq-eqb, ne_eqb}
 use Rattle.string_synth.proofs.sample.wrap_segment.Goals as goal
 
 pub returns-then-whole-eq8 : goal.returns-then-whole-eq8

@@ -1,7 +1,7 @@
 -- `string_synth::targets::lower` meets its contract: the loop's law stands in `Octaves`. Each turn brings the shift nearer to 8, so the
 -- loop ends for every float. Assumes nothing.
-use Rattle.std.proofs.Common.{◌-◌, arith}
-use Rattle.string_synth.proofs.Octaves.{Lowering, lowering_start, lowering_below, lowering_more, lowering_end}
+use Rattle.std.proofs.Common.{arith}
+use Rattle.string_synth.proofs.Octaves.{lowering_start, lowering_below, lowering_more, lowering_end}
 use Rattle.string_synth.proofs.targets.lower.Goals as goal
 
 pub loop-f-init : goal.loop-f-init

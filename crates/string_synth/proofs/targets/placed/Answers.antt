@@ -1,5 +1,5 @@
 -- `string_synth::targets::placed` meets its contract: each way of the test is the definition's. Assumes nothing.
-use Rattle.std.proofs.Common.{rules, le-ltb, lt-ltb}
+use Rattle.std.proofs.Common.{le-ltb, lt-ltb}
 use Rattle.string_synth.proofs.targets.placed.Goals as goal
 
 pub returns-then-i-shift : goal.returns-then-i-shift

@@ -1,6 +1,5 @@
 -- `string_synth::targets::targets` meets its contract. Assumes nothing.
 use Rattle.string_synth.proofs.Registrations.{targets_is}
-use Rattle.std.proofs.Common.{rules}
 use Rattle.string_synth.proofs.targets.targets.Goals as goal
 
 pub returns : goal.returns

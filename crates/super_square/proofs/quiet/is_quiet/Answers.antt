@@ -1,5 +1,4 @@
 -- `super_square::quiet::is_quiet` meets its contract. Assumes nothing.
-use borrow.Author.Rules.{rules}
 use Rattle.super_square.proofs.quiet.is_quiet.Goals as goal
 
 pub returns : goal.returns

@@ -2,7 +2,6 @@
 use mathlib.Core.Path.{sym}
 use Rattle.super_square.specs.Sample.{finish}
 use Rattle.super_square.proofs.Samples.{sample_quiet}
-use borrow.Author.Rules.{rules}
 use Rattle.super_square.proofs.quiet.sample.Goals as goal
 
 pub returns : goal.returns

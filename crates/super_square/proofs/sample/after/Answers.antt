@@ -1,5 +1,4 @@
 -- `super_square::sample::after` meets its contract. Assumes nothing.
-use borrow.Author.Rules.{rules}
 use Rattle.super_square.proofs.sample.after.Goals as goal
 
 pub returns : goal.returns

@@ -1,6 +1,5 @@
 -- `super_square::sample::begin` meets its contract: each way of the test is the definition's. Assumes nothing.
 use Rattle.super_square.specs.Private.{begun}
-use borrow.Author.Rules.{rules}
 use Rattle.super_square.proofs.sample.begin.Goals as goal
 
 pub returns-then-master_phase : goal.returns-then-master_phase

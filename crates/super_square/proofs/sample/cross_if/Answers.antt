@@ -1,5 +1,4 @@
 -- `super_square::sample::cross_if` meets its contract: each way of the test is the definition's. Assumes nothing.
-use borrow.Author.Rules.{rules}
 use Rattle.super_square.proofs.sample.cross_if.Goals as goal
 
 pub returns-then-crosses : goal.returns-then-crosses

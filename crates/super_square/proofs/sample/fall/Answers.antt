@@ -1,7 +1,6 @@
 -- `super_square::sample::fall` meets its contract. Assumes nothing.
 use mathlib.Core.Path.{refl}
 use Rattle.super_square.specs.Sample.{fall_of}
-use borrow.Author.Rules.{rules}
 use Rattle.super_square.proofs.sample.fall.Goals as goal
 
 pub returns : goal.returns

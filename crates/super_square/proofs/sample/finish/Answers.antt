@@ -1,7 +1,6 @@
 -- `super_square::sample::finish` meets its contract. Assumes nothing.
 use mathlib.Core.Path.{refl}
 use Rattle.super_square.specs.Sample.{finish}
-use borrow.Author.Rules.{rules}
 use Rattle.super_square.proofs.sample.finish.Goals as goal
 
 pub returns : goal.returns

@@ -1,6 +1,5 @@
 -- `super_square::sample::leave` meets its contract: each way of the test is the definition's. Assumes nothing.
 use Rattle.super_square.specs.Private.{end_of}
-use borrow.Author.Rules.{rules}
 use Rattle.super_square.proofs.sample.leave.Goals as goal
 
 pub returns-then-reset : goal.returns-then-reset

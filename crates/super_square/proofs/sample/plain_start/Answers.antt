@@ -1,7 +1,6 @@
 -- `super_square::sample::plain_start` meets its contract. Assumes nothing.
 use mathlib.Core.Path.{refl}
 use Rattle.super_square.specs.Private.{plain_start}
-use borrow.Author.Rules.{rules}
 use Rattle.super_square.proofs.sample.plain_start.Goals as goal
 
 pub returns : goal.returns

@@ -1,7 +1,6 @@
 -- `super_square::sample::reset_start` meets its contract. Assumes nothing.
 use mathlib.Core.Path.{refl}
 use Rattle.super_square.specs.Private.{reset_start}
-use borrow.Author.Rules.{rules}
 use Rattle.super_square.proofs.sample.reset_start.Goals as goal
 
 pub returns : goal.returns

@@ -1,7 +1,6 @@
 -- `super_square::sample::rise` meets its contract. Assumes nothing.
 use mathlib.Core.Path.{refl}
 use Rattle.super_square.specs.Sample.{rise_of}
-use borrow.Author.Rules.{rules}
 use Rattle.super_square.proofs.sample.rise.Goals as goal
 
 pub returns : goal.returns

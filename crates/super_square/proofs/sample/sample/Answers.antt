@@ -1,6 +1,5 @@
 -- `super_square::sample::sample` meets its contract: its parts make the definition. Assumes nothing.
 use Rattle.super_square.proofs.Samples.{sample_is, start_crossable}
-use borrow.Author.Rules.{rules}
 use Rattle.super_square.proofs.sample.sample.Goals as goal
 
 pub cross_if-e-requires : goal.cross_if-e-requires

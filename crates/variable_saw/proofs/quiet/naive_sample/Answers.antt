@@ -1,6 +1,5 @@
 -- `variable_saw::quiet::naive_sample` meets its contract. Assumes nothing.
 use Rattle.variable_saw.specs.Sample.{naive}
-use borrow.Author.Rules.{rules}
 use Rattle.variable_saw.proofs.quiet.naive_sample.Goals as goal
 
 pub returns : goal.returns

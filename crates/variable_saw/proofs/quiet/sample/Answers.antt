@@ -2,7 +2,6 @@
 use mathlib.Core.Path.{sym}
 use Rattle.variable_saw.specs.Sample.{finish}
 use Rattle.variable_saw.proofs.Samples.{sample_quiet}
-use borrow.Author.Rules.{rules}
 use Rattle.variable_saw.proofs.quiet.sample.Goals as goal
 
 pub returns : goal.returns

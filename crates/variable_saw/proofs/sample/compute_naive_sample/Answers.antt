@@ -1,7 +1,6 @@
 -- `variable_saw::sample::compute_naive_sample` meets its contract. Assumes nothing.
 use mathlib.Core.Path.{refl}
 use Rattle.variable_saw.specs.Sample.{naive}
-use borrow.Author.Rules.{rules}
 use Rattle.variable_saw.proofs.sample.compute_naive_sample.Goals as goal
 
 pub returns : goal.returns

@@ -1,7 +1,6 @@
 -- `variable_saw::sample::finish` meets its contract. Assumes nothing.
 use mathlib.Core.Path.{refl}
 use Rattle.variable_saw.specs.Sample.{finish}
-use borrow.Author.Rules.{rules}
 use Rattle.variable_saw.proofs.sample.finish.Goals as goal
 
 pub returns : goal.returns

@@ -1,6 +1,5 @@
 -- `variable_saw::sample::sample` meets its contract: a rise, a wrap, or neither, as the definition tests. Assumes nothing.
 use Rattle.variable_saw.proofs.Samples.{sample_rises, sample_wraps, sample_stays}
-use borrow.Author.Rules.{rules}
 use Rattle.variable_saw.proofs.sample.sample.Goals as goal
 
 pub returns-then-e-pw : goal.returns-then-e-pw

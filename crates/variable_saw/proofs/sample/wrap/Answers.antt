@@ -1,7 +1,6 @@
 -- `variable_saw::sample::wrap` meets its contract. Assumes nothing.
 use mathlib.Core.Path.{refl}
 use Rattle.variable_saw.specs.Sample.{wrap_of}
-use borrow.Author.Rules.{rules}
 use Rattle.variable_saw.proofs.sample.wrap.Goals as goal
 
 pub returns : goal.returns

@@ -1,6 +1,5 @@
 -- `variable_shape::master_phase::set_master_phase` meets its contract: each way of the test is the definition's. Assumes nothing.
 use mathlib.Core.Path.{refl, sym, ◌∙◌}
-use borrow.Author.Rules.{rules}
 use Rattle.variable_shape.proofs.master_phase.set_master_phase.Goals as goal
 
 pub returns-then-phase_in : goal.returns-then-phase_in

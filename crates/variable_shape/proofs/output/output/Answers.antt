@@ -1,5 +1,4 @@
 -- `variable_shape::output::output` meets its contract: each way of the tests is the definition's. Assumes nothing.
-use borrow.Author.Rules.{rules}
 use Rattle.variable_shape.proofs.output.output.Goals as goal
 
 pub returns-then-sync : goal.returns-then-sync

@@ -1,5 +1,4 @@
 -- `variable_shape::output::phasor` meets its contract. Assumes nothing.
-use borrow.Author.Rules.{rules}
 use Rattle.variable_shape.proofs.output.phasor.Goals as goal
 
 pub returns : goal.returns

@@ -1,5 +1,4 @@
 -- `variable_shape::quiet::is_quiet` meets its contract. Assumes nothing.
-use borrow.Author.Rules.{rules}
 use Rattle.variable_shape.proofs.quiet.is_quiet.Goals as goal
 
 pub returns : goal.returns

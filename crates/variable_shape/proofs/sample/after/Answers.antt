@@ -1,5 +1,4 @@
 -- `variable_shape::sample::after` meets its contract. Assumes nothing.
-use borrow.Author.Rules.{rules}
 use Rattle.variable_shape.proofs.sample.after.Goals as goal
 
 pub returns : goal.returns

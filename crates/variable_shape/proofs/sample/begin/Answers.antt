@@ -1,6 +1,5 @@
 -- `variable_shape::sample::begin` meets its contract: each way of the test is the definition's. Assumes nothing.
 use Rattle.variable_shape.specs.Private.{begun}
-use borrow.Author.Rules.{rules}
 use Rattle.variable_shape.proofs.sample.begin.Goals as goal
 
 pub returns-then-sync-master_phase : goal.returns-then-sync-master_phase

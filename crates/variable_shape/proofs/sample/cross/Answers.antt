@@ -1,7 +1,6 @@
 -- `variable_shape::sample::cross` meets its contract: the loop's laws are `edges`'. Assumes nothing.
 use mathlib.Core.Path.{◌∙◌}
-use borrow.Author.Rules.{rules}
-use Rattle.edges.proofs.CrossingLoop.{again, Going, going_start, Risen, stays_high, rises_low, ends_low, ends_high, again_less, going_on}
+use Rattle.edges.proofs.CrossingLoop.{going_start, Risen, stays_high, rises_low, ends_low, ends_high, again_less, going_on}
 use Rattle.variable_shape.proofs.Edges.{crosses}
 use Rattle.variable_shape.proofs.sample.cross.Goals as goal
 use Rattle.variable_shape.proofs.sample.cross.Goals.{then-not-e+else-e-w, else-not-e}

@@ -1,5 +1,4 @@
 -- `variable_shape::sample::cross_if` meets its contract: each way of the test is the definition's. Assumes nothing.
-use borrow.Author.Rules.{rules}
 use Rattle.variable_shape.proofs.sample.cross_if.Goals as goal
 
 pub returns-then-crosses : goal.returns-then-crosses

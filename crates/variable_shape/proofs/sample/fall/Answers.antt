@@ -1,7 +1,6 @@
 -- `variable_shape::sample::fall` meets its contract. Assumes nothing.
 use Rattle.variable_shape.specs.Sample.{fall_of}
 use mathlib.Core.Path.{refl}
-use borrow.Author.Rules.{rules}
 use Rattle.variable_shape.proofs.sample.fall.Goals as goal
 
 pub returns : goal.returns

@@ -1,7 +1,6 @@
 -- `variable_shape::sample::finish` meets its contract. Assumes nothing.
 use mathlib.Core.Path.{refl}
 use Rattle.variable_shape.specs.Sample.{finish}
-use borrow.Author.Rules.{rules}
 use Rattle.variable_shape.proofs.sample.finish.Goals as goal
 
 pub returns : goal.returns

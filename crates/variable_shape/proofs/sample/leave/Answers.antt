@@ -1,6 +1,5 @@
 -- `variable_shape::sample::leave` meets its contract: each way of the test is the definition's. Assumes nothing.
 use Rattle.variable_shape.specs.Private.{end_of}
-use borrow.Author.Rules.{rules}
 use Rattle.variable_shape.proofs.sample.leave.Goals as goal
 
 pub returns-then-reset : goal.returns-then-reset

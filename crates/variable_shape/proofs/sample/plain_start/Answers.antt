@@ -1,7 +1,6 @@
 -- `variable_shape::sample::plain_start` meets its contract. Assumes nothing.
 use mathlib.Core.Path.{refl}
 use Rattle.variable_shape.specs.Private.{plain_start}
-use borrow.Author.Rules.{rules}
 use Rattle.variable_shape.proofs.sample.plain_start.Goals as goal
 
 pub returns : goal.returns

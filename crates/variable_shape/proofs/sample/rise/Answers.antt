@@ -1,7 +1,6 @@
 -- `variable_shape::sample::rise` meets its contract. Assumes nothing.
 use Rattle.variable_shape.specs.Sample.{rise_of}
 use mathlib.Core.Path.{refl}
-use borrow.Author.Rules.{rules}
 use Rattle.variable_shape.proofs.sample.rise.Goals as goal
 
 pub returns : goal.returns

@@ -1,6 +1,5 @@
 -- `variable_shape::sample::sample` meets its contract: its parts make the definition. Assumes nothing.
 use Rattle.variable_shape.proofs.Samples.{sample_is, start_crossable}
-use borrow.Author.Rules.{rules}
 use Rattle.variable_shape.proofs.sample.sample.Goals as goal
 
 pub cross_if-e-requires : goal.cross_if-e-requires

@@ -1,5 +1,4 @@
 -- `variable_shape::steps::at` meets its contract. Assumes nothing.
-use borrow.Author.Rules.{rules}
 use Rattle.variable_shape.proofs.steps.at.Goals as goal
 
 pub returns : goal.returns

@@ -1,7 +1,6 @@
 -- `variable_shape::waveform::naive` meets its contract. Assumes nothing.
 use Rattle.variable_shape.specs.Waveform.{naive_of}
 use mathlib.Core.Path.{refl}
-use borrow.Author.Rules.{rules}
 use Rattle.variable_shape.proofs.waveform.naive.Goals as goal
 
 pub returns : goal.returns

@@ -1,7 +1,6 @@
 -- `variable_shape::waveform::naive_at` meets its contract. Assumes nothing.
 use Rattle.variable_shape.specs.Waveform.{waveform_of, naive_of}
 use mathlib.Core.Path.{refl}
-use borrow.Author.Rules.{rules}
 use Rattle.variable_shape.proofs.waveform.naive_at.Goals as goal
 
 pub returns : goal.returns

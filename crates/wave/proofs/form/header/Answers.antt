@@ -1,5 +1,4 @@
 -- `wave::form::header` meets its contract: four numbers in the places that are left for them. Assumes nothing.
-use borrow.Author.Rules.{rules}
 use Rattle.wave.specs.Form.{low_first, header_of}
 use Rattle.wave.proofs.form.header.Goals as goal
 

@@ -1,5 +1,4 @@
 -- `wave::form::put_dword` meets its contract, byte by byte. Assumes nothing.
-use borrow.Author.Rules.{rules}
 use Rattle.wave.proofs.Putting.{dword_put}
 use Rattle.wave.proofs.form.put_dword.Goals as goal
 

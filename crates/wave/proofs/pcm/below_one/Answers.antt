@@ -1,7 +1,6 @@
 -- `wave::pcm::below_one` meets its contract: the digits over a power of two are rounded. Assumes nothing.
 use mathlib.Core.Path.{refl, sym}
 use native.Mathlib.Omega.{arith}
-use borrow.Author.Rules.{rules}
 use Rattle.wave.proofs.Bits.{bits_low, below}
 use Rattle.wave.proofs.pcm.below_one.Goals as goal
 

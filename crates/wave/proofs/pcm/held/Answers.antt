@@ -2,7 +2,6 @@
 use mathlib.Core.Path.{sym, subst}
 use native.Mathlib.Omega.{arith}
 use lib.Dec.{T}
-use borrow.Author.Rules.{rules}
 use Rattle.wave.proofs.Held.{held_plus, held_minus}
 use Rattle.wave.proofs.pcm.held.Goals as goal
 

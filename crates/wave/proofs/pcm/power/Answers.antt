@@ -5,7 +5,6 @@ use native.Mathlib.Nat.{one-mul}
 use native.Mathlib.Omega.{arith}
 use lib.Dec.{lit<}
 use lib.Pow.{shl_exact, pow_pos, pow_mono}
-use borrow.Author.Rules.{rules}
 use Rattle.wave.proofs.pcm.power.Goals as goal
 
 says : (s : ℕ) → s ≤ 40 → (1 * 2 ^ s % 2 ^ 64 ≡ 2 ^ s) × (0 < 1 * 2 ^ s % 2 ^ 64) × (1 * 2 ^ s % 2 ^ 64 ≤ 1099511627776)

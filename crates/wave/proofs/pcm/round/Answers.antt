@@ -2,7 +2,6 @@
 use mathlib.Core.Path.{sym}
 use native.Mathlib.Nat.{mod-lt, div-le_self}
 use native.Mathlib.Omega.{arith}
-use borrow.Author.Rules.{rules}
 use Rattle.wave.proofs.Rounded.{a_tie, below_half, above_half}
 use Rattle.wave.proofs.pcm.round.Goals as goal
 

@@ -1,7 +1,6 @@
 -- `wave::pcm::size` meets its contract. Assumes nothing.
 use mathlib.Core.Path.{sym}
 use native.Mathlib.Omega.{arith}
-use borrow.Author.Rules.{rules}
 use Rattle.wave.proofs.Bits.{bits_nan, bits_over}
 use Rattle.wave.proofs.pcm.size.Goals as goal
 
