@@ -10,7 +10,7 @@ pub(crate) fn put_variable_shape(
 ) -> usize {
     record::read_state(record, words);
     let mut result = [0u32; 7];
-    let answer = navuloqu::variable_shape::navuloqu_3_variable_shape_render(
+    let answer = navuloqu::variable_shape_calls::navuloqu_3_variable_shape_render(
         words,
         record::float_at(record, 12),
         record::float_at(record, 8),
@@ -34,7 +34,7 @@ pub(crate) fn put_variable_saw(
 ) -> usize {
     record::read_state(record, words);
     let mut result = [0u32; 7];
-    let answer = navuloqu::variable_saw::navuloqu_3_variable_saw_render(
+    let answer = navuloqu::variable_saw_calls::navuloqu_3_variable_saw_render(
         words,
         record::float_at(record, 8),
         record::float_at(record, 16),
@@ -54,7 +54,7 @@ pub(crate) fn put_super_square(
 ) -> usize {
     record::read_state(record, words);
     let mut result = [0u32; 7];
-    let answer = navuloqu::super_square::navuloqu_3_super_square_render(
+    let answer = navuloqu::super_square_calls::navuloqu_3_super_square_render(
         words,
         record::float_at(record, 8),
         record::float_at(record, 16),
@@ -73,7 +73,7 @@ pub(crate) fn put_nes_triangle(
 ) -> usize {
     record::read_state(record, words);
     let mut result = [0u32; 7];
-    let answer = navuloqu::nes_triangle::navuloqu_3_nes_triangle_render(
+    let answer = navuloqu::nes_triangle_calls::navuloqu_3_nes_triangle_render(
         words,
         record::float_at(record, 8),
         testing::word_at(record, 4),
@@ -94,7 +94,7 @@ pub(crate) fn put_string_synth(
     let registration = record::registration(record);
     let entries = record::entries(record);
     let mut result = [0u32; 7];
-    let answer = navuloqu::string_synth::navuloqu_3_string_synth_render(
+    let answer = navuloqu::string_synth_calls::navuloqu_3_string_synth_render(
         words,
         record::float_at(record, 8),
         &registration[0..entries],
@@ -114,7 +114,7 @@ pub(crate) fn put_classic(
 ) -> usize {
     record::read_state(record, words);
     let mut result = [0u32; 7];
-    let answer = navuloqu::classic::navuloqu_3_classic_render(
+    let answer = navuloqu::classic_calls::navuloqu_3_classic_render(
         words,
         record::float_at(record, 8),
         record::float_at(record, 16),

@@ -9,7 +9,7 @@ pub(crate) fn put_master_phase(
     out: &[f32],
 ) -> usize {
     record::read_state(record, words);
-    let answer = navuloqu::variable_shape::navuloqu_3_variable_shape_set_master_phase(
+    let answer = navuloqu::variable_shape_calls::navuloqu_3_variable_shape_set_master_phase(
         words,
         record::float_at(record, 12),
     );
@@ -24,6 +24,9 @@ pub(crate) fn put_start(
     out: &[f32],
 ) -> usize {
     record::read_state(record, words);
-    let answer = navuloqu::classic::navuloqu_3_classic_init(words, record::float_at(record, 12));
+    let answer = navuloqu::classic_calls::navuloqu_3_classic_init(
+        words,
+        record::float_at(record, 12),
+    );
     line::put_outcome(text, answer, &[answer, 0, 0, 0, 0, 0, 0], words, out)
 }

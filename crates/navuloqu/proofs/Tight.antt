@@ -7,20 +7,20 @@ use Rattle.words.proofs.Faces.{same_face}
 use Rattle.variable_shape_face.specs.Words.{SetFace}
 use Rattle.classic_face.specs.Words.{StartFace}
 use Rattle.wave.specs.Write.{Handed}
-use Rattle.navuloqu.proofs.variable_shape.navuloqu_3_variable_shape_init as variable_shape_init
-use Rattle.navuloqu.proofs.variable_shape.navuloqu_3_variable_shape_render as variable_shape_render
-use Rattle.navuloqu.proofs.variable_shape.navuloqu_3_variable_shape_set_master_phase as variable_shape_set_master_phase
-use Rattle.navuloqu.proofs.variable_saw.navuloqu_3_variable_saw_init as variable_saw_init
-use Rattle.navuloqu.proofs.variable_saw.navuloqu_3_variable_saw_render as variable_saw_render
-use Rattle.navuloqu.proofs.super_square.navuloqu_3_super_square_init as super_square_init
-use Rattle.navuloqu.proofs.super_square.navuloqu_3_super_square_render as super_square_render
-use Rattle.navuloqu.proofs.nes_triangle.navuloqu_3_nes_triangle_init as nes_triangle_init
-use Rattle.navuloqu.proofs.nes_triangle.navuloqu_3_nes_triangle_render as nes_triangle_render
-use Rattle.navuloqu.proofs.string_synth.navuloqu_3_string_synth_init as string_synth_init
-use Rattle.navuloqu.proofs.string_synth.navuloqu_3_string_synth_render as string_synth_render
-use Rattle.navuloqu.proofs.classic.navuloqu_3_classic_init as classic_init
-use Rattle.navuloqu.proofs.classic.navuloqu_3_classic_render as classic_render
-use Rattle.navuloqu.proofs.stems.navuloqu_3_wave_write as wave_write
+use Rattle.navuloqu.proofs.variable_shape_calls.navuloqu_3_variable_shape_init as variable_shape_init
+use Rattle.navuloqu.proofs.variable_shape_calls.navuloqu_3_variable_shape_render as variable_shape_render
+use Rattle.navuloqu.proofs.variable_shape_calls.navuloqu_3_variable_shape_set_master_phase as variable_shape_set_master_phase
+use Rattle.navuloqu.proofs.variable_saw_calls.navuloqu_3_variable_saw_init as variable_saw_init
+use Rattle.navuloqu.proofs.variable_saw_calls.navuloqu_3_variable_saw_render as variable_saw_render
+use Rattle.navuloqu.proofs.super_square_calls.navuloqu_3_super_square_init as super_square_init
+use Rattle.navuloqu.proofs.super_square_calls.navuloqu_3_super_square_render as super_square_render
+use Rattle.navuloqu.proofs.nes_triangle_calls.navuloqu_3_nes_triangle_init as nes_triangle_init
+use Rattle.navuloqu.proofs.nes_triangle_calls.navuloqu_3_nes_triangle_render as nes_triangle_render
+use Rattle.navuloqu.proofs.string_synth_calls.navuloqu_3_string_synth_init as string_synth_init
+use Rattle.navuloqu.proofs.string_synth_calls.navuloqu_3_string_synth_render as string_synth_render
+use Rattle.navuloqu.proofs.classic_calls.navuloqu_3_classic_init as classic_init
+use Rattle.navuloqu.proofs.classic_calls.navuloqu_3_classic_render as classic_render
+use Rattle.navuloqu.proofs.stem_calls.navuloqu_3_wave_write as wave_write
 
 pub variable_shape_init_tight : Determines (ended_of _ variable_shape_init.Kinds.ps variable_shape_init.Kinds.r) variable_shape_init.Reads.Learnt
 variable_shape_init_tight κs a r q v w h k = (refl, rw (coincide h k))

@@ -2,10 +2,10 @@
 // a stem. Each is its oscillator's own face, or `wave`, under a name of the archive. `navuloqu_c` exports them to C, and include/navuloqu.h declares them.
 #![tactic(auto)]
 
-pub mod classic;
-pub mod nes_triangle;
-pub mod stems;
-pub mod string_synth;
-pub mod super_square;
-pub mod variable_saw;
-pub mod variable_shape;
+pub mod classic_calls;
+pub mod nes_triangle_calls;
+pub mod stem_calls;
+pub mod string_synth_calls;
+pub mod super_square_calls;
+pub mod variable_saw_calls;
+pub mod variable_shape_calls;

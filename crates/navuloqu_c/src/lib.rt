@@ -2,10 +2,10 @@
 // functions of its own crate alone, and a crate is either a library or an archive.
 #![tactic(auto)]
 
-pub mod classic;
-pub mod nes_triangle;
-pub mod stems;
-pub mod string_synth;
-pub mod super_square;
-pub mod variable_saw;
-pub mod variable_shape;
+pub mod classic_calls;
+pub mod nes_triangle_calls;
+pub mod stem_calls;
+pub mod string_synth_calls;
+pub mod super_square_calls;
+pub mod variable_saw_calls;
+pub mod variable_shape_calls;

@@ -4,7 +4,7 @@ use crate::fields;
 // The line's end: exported and by value, each with its answer and the words that it left.
 pub(crate) fn put_forms(text: &mut [u8], at: usize, words: [u32; 9], rate: f32) -> usize {
     let mut left = words;
-    let number = navuloqu::classic::navuloqu_3_classic_init(&mut left, rate);
+    let number = navuloqu::classic_calls::navuloqu_3_classic_init(&mut left, rate);
     let exported = put_left(text, at, number, &left, b' ');
     let started = classic::init(fields::classic_of(words), rate);
     let answer = started.answer;

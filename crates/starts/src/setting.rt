@@ -17,7 +17,7 @@ pub(crate) fn put_forms(text: &mut [u8], words: [u32; 10], phase: f32) -> usize 
 // The exported form, over words.
 fn put_exported(text: &mut [u8], words: [u32; 10], phase: f32) -> usize {
     let mut left = words;
-    let number = navuloqu::variable_shape::navuloqu_3_variable_shape_set_master_phase(
+    let number = navuloqu::variable_shape_calls::navuloqu_3_variable_shape_set_master_phase(
         &mut left, phase,
     );
     put_left(text, 0, number, &left)

@@ -84,41 +84,41 @@ fn say_state(rt: HostRuntime, name: &[u8], words: &[u32]) -> bool {
 // Before an exported `init` each word has all its bits set, so that one that it leaves alone is seen.
 fn exported_variable_shape() -> [u32; 10] {
     let mut words = [0xffff_ffffu32; 10];
-    navuloqu::variable_shape::navuloqu_3_variable_shape_init(&mut words);
+    navuloqu::variable_shape_calls::navuloqu_3_variable_shape_init(&mut words);
     words
 }
 
 // The saw's.
 fn exported_variable_saw() -> [u32; 7] {
     let mut words = [0xffff_ffffu32; 7];
-    navuloqu::variable_saw::navuloqu_3_variable_saw_init(&mut words);
+    navuloqu::variable_saw_calls::navuloqu_3_variable_saw_init(&mut words);
     words
 }
 
 // The super square's.
 fn exported_super_square() -> [u32; 6] {
     let mut words = [0xffff_ffffu32; 6];
-    navuloqu::super_square::navuloqu_3_super_square_init(&mut words);
+    navuloqu::super_square_calls::navuloqu_3_super_square_init(&mut words);
     words
 }
 
 // The NES triangle's.
 fn exported_nes_triangle() -> [u32; 5] {
     let mut words = [0xffff_ffffu32; 5];
-    navuloqu::nes_triangle::navuloqu_3_nes_triangle_init(&mut words);
+    navuloqu::nes_triangle_calls::navuloqu_3_nes_triangle_init(&mut words);
     words
 }
 
 // The string's.
 fn exported_string_synth() -> [u32; 8] {
     let mut words = [0xffff_ffffu32; 8];
-    navuloqu::string_synth::navuloqu_3_string_synth_init(&mut words);
+    navuloqu::string_synth_calls::navuloqu_3_string_synth_init(&mut words);
     words
 }
 
 // The classic's. Where it is refused, the words stay.
 fn exported_classic() -> [u32; 9] {
     let mut words = [0xffff_ffffu32; 9];
-    navuloqu::classic::navuloqu_3_classic_init(&mut words, 48000.0);
+    navuloqu::classic_calls::navuloqu_3_classic_init(&mut words, 48000.0);
     words
 }

@@ -7,7 +7,7 @@ ghost use Rattle.super_square_face.specs.Words.{init_words, render_face};
 pub extern "C" fn navuloqu_3_super_square_init(words: &mut [u32; 6])
     ensures { words.new ≡ init_words }
 {
-    navuloqu::super_square::navuloqu_3_super_square_init(words);
+    navuloqu::super_square_calls::navuloqu_3_super_square_init(words);
 }
 
 // A block.
@@ -21,5 +21,5 @@ pub extern "C" fn navuloqu_3_super_square_render(
 ) -> u32
     ensures { record { answer = result; words = words.new; result = res.new; samples = out.new } ≡ render_face words.old frequency shape out.old }
 {
-    navuloqu::super_square::navuloqu_3_super_square_render(words, frequency, shape, out, res)
+    navuloqu::super_square_calls::navuloqu_3_super_square_render(words, frequency, shape, out, res)
 }

@@ -7,7 +7,7 @@ ghost use Rattle.variable_saw_face.specs.Words.{init_words, render_face};
 pub extern "C" fn navuloqu_3_variable_saw_init(words: &mut [u32; 7])
     ensures { words.new ≡ init_words }
 {
-    navuloqu::variable_saw::navuloqu_3_variable_saw_init(words);
+    navuloqu::variable_saw_calls::navuloqu_3_variable_saw_init(words);
 }
 
 // A block.
@@ -22,7 +22,7 @@ pub extern "C" fn navuloqu_3_variable_saw_render(
 ) -> u32
     ensures { record { answer = result; words = words.new; result = res.new; samples = out.new } ≡ render_face words.old frequency pw waveshape out.old }
 {
-    navuloqu::variable_saw::navuloqu_3_variable_saw_render(
+    navuloqu::variable_saw_calls::navuloqu_3_variable_saw_render(
         words, frequency, pw, waveshape, out, res,
     )
 }

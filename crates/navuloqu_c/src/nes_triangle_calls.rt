@@ -7,7 +7,7 @@ ghost use Rattle.nes_triangle_face.specs.Words.{init_words, render_face};
 pub extern "C" fn navuloqu_3_nes_triangle_init(words: &mut [u32; 5])
     ensures { words.new ≡ init_words }
 {
-    navuloqu::nes_triangle::navuloqu_3_nes_triangle_init(words);
+    navuloqu::nes_triangle_calls::navuloqu_3_nes_triangle_init(words);
 }
 
 // A block.
@@ -21,5 +21,7 @@ pub extern "C" fn navuloqu_3_nes_triangle_render(
 ) -> u32
     ensures { record { answer = result; words = words.new; result = res.new; samples = out.new } ≡ render_face words.old frequency num_bits out.old }
 {
-    navuloqu::nes_triangle::navuloqu_3_nes_triangle_render(words, frequency, num_bits, out, res)
+    navuloqu::nes_triangle_calls::navuloqu_3_nes_triangle_render(
+        words, frequency, num_bits, out, res,
+    )
 }

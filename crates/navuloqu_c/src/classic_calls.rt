@@ -7,7 +7,7 @@ ghost use Rattle.classic_face.specs.Words.{init_face, render_face};
 pub extern "C" fn navuloqu_3_classic_init(words: &mut [u32; 9], sample_rate: f32) -> u32
     ensures { record { words = words.new; number = result } ≡ init_face words.old sample_rate }
 {
-    navuloqu::classic::navuloqu_3_classic_init(words, sample_rate)
+    navuloqu::classic_calls::navuloqu_3_classic_init(words, sample_rate)
 }
 
 // A block.
@@ -22,5 +22,5 @@ pub extern "C" fn navuloqu_3_classic_render(
 ) -> u32
     ensures { record { answer = result; words = words.new; result = res.new; samples = out.new } ≡ render_face words.old frequency pw shape out.old }
 {
-    navuloqu::classic::navuloqu_3_classic_render(words, frequency, pw, shape, out, res)
+    navuloqu::classic_calls::navuloqu_3_classic_render(words, frequency, pw, shape, out, res)
 }

@@ -7,7 +7,7 @@ ghost use Rattle.variable_shape_face.specs.Words.{init_words, render_face, set_f
 pub extern "C" fn navuloqu_3_variable_shape_init(words: &mut [u32; 10])
     ensures { words.new ≡ init_words }
 {
-    navuloqu::variable_shape::navuloqu_3_variable_shape_init(words);
+    navuloqu::variable_shape_calls::navuloqu_3_variable_shape_init(words);
 }
 
 // A block.
@@ -26,7 +26,7 @@ pub extern "C" fn navuloqu_3_variable_shape_render(
 ) -> u32
     ensures { record { answer = result; words = words.new; result = res.new; samples = out.new } ≡ render_face words.old master_frequency frequency pw waveshape phase_modulation sync phase_output out.old }
 {
-    navuloqu::variable_shape::navuloqu_3_variable_shape_render(
+    navuloqu::variable_shape_calls::navuloqu_3_variable_shape_render(
         words,
         master_frequency,
         frequency,
@@ -48,5 +48,5 @@ pub extern "C" fn navuloqu_3_variable_shape_set_master_phase(
 ) -> u32
     ensures { record { words = words.new; number = result } ≡ set_face words.old phase }
 {
-    navuloqu::variable_shape::navuloqu_3_variable_shape_set_master_phase(words, phase)
+    navuloqu::variable_shape_calls::navuloqu_3_variable_shape_set_master_phase(words, phase)
 }

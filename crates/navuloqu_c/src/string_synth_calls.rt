@@ -7,7 +7,7 @@ ghost use Rattle.string_synth_face.specs.Words.{init_words, render_face};
 pub extern "C" fn navuloqu_3_string_synth_init(words: &mut [u32; 8])
     ensures { words.new ≡ init_words }
 {
-    navuloqu::string_synth::navuloqu_3_string_synth_init(words);
+    navuloqu::string_synth_calls::navuloqu_3_string_synth_init(words);
 }
 
 // A block, added to what the buffer holds.
@@ -22,7 +22,7 @@ pub extern "C" fn navuloqu_3_string_synth_render(
 ) -> u32
     ensures { record { answer = result; words = words.new; result = res.new; samples = out.new } ≡ render_face words.old frequency registration.now gain out.old }
 {
-    navuloqu::string_synth::navuloqu_3_string_synth_render(
+    navuloqu::string_synth_calls::navuloqu_3_string_synth_render(
         words,
         frequency,
         registration,
