@@ -60,10 +60,10 @@ fn put_helpers(text: &mut [u8], at: usize, x: f32, y: f32, z: f32) -> usize {
 // The increment and the first two steps from `x` to `y` over `size` samples, at the line's end.
 fn put_steps(text: &mut [u8], at: usize, x: f32, y: f32, size: u32) -> usize {
     let start = ParameterInterpolator::new(x, y, size);
-    let increment = put_float(text, at, start.increment, b' ');
     let first = start.next();
-    let step = put_float(text, increment, first.value, b' ');
     let second = first.next();
+    let increment = put_float(text, at, start.increment, b' ');
+    let step = put_float(text, increment, first.value, b' ');
     put_float(text, step, second.value, b'\n')
 }
 
