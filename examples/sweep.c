@@ -1,6 +1,6 @@
 /* Sweeps the string oscillator upward through the pitch that is too high, and prints what it was told. Any frequency is answered, by number.
 
-   rt staticlib navuloqu
+   tools/archive
    cc -O2 -o target/sweep examples/sweep.c target/staticlib/libnavuloqu.a && target/sweep
 
    On Arm with Debian's gcc-x86-64-linux-gnu and qemu-user, x86_64-linux-gnu-gcc in place of cc, and then qemu-x86_64 -L /usr/x86_64-linux-gnu target/sweep */

@@ -1,6 +1,6 @@
 /* Renders a second of the super square, block by block, and writes it as a WAV file. Every answer is looked at: what is refused ends it.
 
-   rt staticlib navuloqu
+   tools/archive
    cc -O2 -o target/tone examples/tone.c target/staticlib/libnavuloqu.a && target/tone target/tone.wav
 
    On Arm with Debian's gcc-x86-64-linux-gnu and qemu-user, x86_64-linux-gnu-gcc in place of cc, and then

@@ -1,4 +1,4 @@
-/* Navuloqu's tone generators for C and for whoever calls C. Link libnavuloqu.a (Linux, x86-64), which `rt staticlib navuloqu` writes.
+/* Navuloqu's tone generators for C and for whoever calls C. Link libnavuloqu.a (Linux, x86-64), which `tools/archive` writes.
  *
  * LOOK AT THE ANSWER of every call. A block that is refused leaves in the buffer what it held before: a buffer that is used again then holds
  * the last block, and who takes that for a rendered one delivers it twice.

@@ -19,7 +19,7 @@ compile_for() {
     cc=cc nm=${prefix}nm
     if [ "$emulator" ]; then
         cc=${prefix}gcc
-        clang=$(dirname "$(dirname "$(rt doc)")")/on/$(uname -m)/toolchain/bin/clang
+        clang=$(dirname "$(rt doc)")/on/$(uname -m)/toolchain/bin/clang
         [ -x "$clang" ] || die "the kit has no clang for this processor, which compiles the Rust for x86-64: looked for $clang"
     fi
     need cc 'it compiles the programs that measure'
@@ -90,18 +90,16 @@ build_bench() {
 # The archive, proved and compiled for x86-64.
 build_archive() {
     lock_target
-    (cd "$root" && logged libnavuloqu.a rt staticlib navuloqu) || exit 2
+    logged libnavuloqu.a make_archive
     unlock_target
     archive=$root/target/staticlib/libnavuloqu.a
-    [ -f "$archive" ] || die "rt staticlib navuloqu left no $archive"
 }
 
 # The renderer, proved; the Rust's; and the lists that they are run on.
 build_renderers() {
     lock_target
-    (cd "$root" && logged 'the renderer' rt check renderer) || exit 2
+    logged 'the renderer' make_program renderer
     unlock_target
-    [ -x "$root/target/bin/renderer" ] || die 'rt check renderer left no target/bin/renderer: remove target/ and try again'
     rust_object renderer rust_renderer
     panics "$out/rust_renderer.o" >"$out/rust_renderer.panics.c"
     c_program $cc "$out/rust_renderer" "$out/rust_renderer.panics.c" "$out/rust_renderer.o"

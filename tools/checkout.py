@@ -8,19 +8,19 @@ import unittest
 
 ROOT = os.path.dirname(os.path.dirname(os.path.abspath(__file__)))
 
-# Stands for the kit: `rt check` takes a moment and leaves a program, and `rt doc` leads to an emulator that runs it as it is.
+# Stands for the kit: `rt run`, in a program's folder, takes a moment and leaves the program, and `rt doc` leads to an emulator that runs it as it is.
 RT = """#!/bin/sh
+crate=$(basename "$PWD")
 case $1 in
-doc) echo "$(dirname "$0")/docs/guide" ;;
-check)
-    echo "rt: floats proved (unchanged since it was last proved)"
-    echo "$2" >>"$(dirname "$0")/asked"
+doc) echo "$(dirname "$0")/guide" ;;
+lib) echo "library $crate: modules loaded=1 checked=0" ;;
+run)
+    echo "$crate" >>"$(dirname "$0")/asked"
     sleep "${SLOW:-0}"
-    [ -z "${REFUSED:-}" ] || { echo "rt: $2 NOT PROVED (exit 1, 0 s)"; exit 1; }
-    mkdir -p target/bin
-    cp "$(dirname "$0")/$2" target/bin
-    echo "rt: $2 proved (0 s)"
-    echo "rt: ok, 2 crates proved"
+    [ -z "${REFUSED:-}" ] || { echo "logic=not-proved functions=1"; exit 1; }
+    mkdir -p out
+    cp "$(dirname "$0")/$crate" out
+    echo "fn $crate::main: proved"
     ;;
 esac
 """
@@ -52,8 +52,10 @@ class Checkout(unittest.TestCase):
             os.makedirs(path)
         for path in [self.script, *self.reads]:
             shutil.copy(f"{ROOT}/{path}", f"{self.root}/{path}")
-        self.write(self.root + "/crates.txt", "# two\nfloats:\n" + "".join(f"{name}: floats io libc\n" for name in self.programs))
-        self.write(self.root + "/crates/source", "")
+        self.write(self.root + "/crates.txt", "# two\nfloats:\n" + "".join(f"{name}: floats io\n" for name in self.programs))
+        for name in ["floats/src/lib.rt", *(f"{name}/src/main.rt" for name in self.programs)]:
+            self.write(f"{self.root}/crates/{name}", "")
+        self.source = self.root + "/crates/floats/src/lib.rt"
         self.program(self.kit + "/rt", RT)
         for name, text in self.programs.items():
             self.program(f"{self.kit}/{name}", text)

@@ -53,10 +53,16 @@ build() {
 }
 
 is_built() {
-    [ -x "$program" ] && [ -e "$stamp" ] && [ -z "$(find "$root/crates" "$root/crates.txt" -newer "$stamp" -print)" ]
+    [ -x "$program" ] && [ -e "$stamp" ] && [ -z "$(newer_sources)" ]
 }
 
-# lock_target: until unlock_target no other script builds in this checkout, since rt itself does not keep two runs in one target/ apart.
+# newer_sources: what was changed after the stamp. What rt makes stands in out/ beside a crate's sources, and is none; with it the crate's folder changes.
+newer_sources() {
+    cd "$root/crates" || return
+    find . ../crates.txt \( ! -name . -type d ! -path './*/*' -o -path './*/out' ! -path './*/*/out' -prune \) -o -newer "$stamp" -print
+}
+
+# lock_target: until unlock_target no other script builds in this checkout: what they build they copy to one target/.
 lock_target() {
     command -v flock >/dev/null 2>&1 || die "flock, which keeps two builds apart, is not in PATH"
     mkdir -p "$root/target" 2>/dev/null || die "cannot build the program: $root/target cannot be made"
@@ -78,43 +84,54 @@ unlock_target() {
 prove() {
     printf '%s: proving and building the program first, which takes some minutes\n' "$name" >&2
     (: >"$stamp.new") 2>/dev/null || die "cannot build the program: $stamp.new cannot be written"
-    {
-        (cd "$root" && rt check "$1")
-        printf 'rt ended with %s\n' "$?"
-    } </dev/null 2>&1 | tee "$root/target/$1-build.log" | tell_progress "$(count_crates "$1")" ||
-        die "the program was not built: target/$1-build.log says why"
-    [ -x "$program" ] || die "rt check $1 left no target/bin/$1: remove target/ and try again"
+    (: >"$root/target/$1-build.log") 2>/dev/null || die "cannot build the program: $root/target/$1-build.log cannot be written"
+    made_of=$(crates_of "$1") proved=0
+    for each in $made_of; do
+        make_crate "$each" >>"$root/target/$1-build.log" 2>&1 || die "the program was not built: target/$1-build.log says why"
+        proved=$((proved + 1))
+        printf '%s: %s of %s crates\n' "$name" "$proved" "$(printf '%s\n' "$made_of" | wc -l)" >&2
+    done
+    put_built "crates/$1/out/$1" "target/bin/$1" || die "rt run left no crates/$1/out/$1: remove that folder and try again"
     mv "$stamp.new" "$stamp" || exit 2
 }
 
-# count_crates PROGRAM: how many crates of the repository it is made of, itself among them.
-count_crates() {
-    awk -v program="$1" '
+# crates_of CRATE: the crates of the repository that it is made of, each after those that it leans on, so that it comes last itself.
+crates_of() {
+    awk -v asked="$1" '
         function visit(crate,    i, n, named) {
             if (!(crate in needs) || crate in seen) return
             seen[crate]
-            count++
             n = split(needs[crate], named, " ")
             for (i = 1; i <= n; i++) visit(named[i])
+            print crate
         }
         { sub(/#.*/, "") }
-        i = index($0, ":") { needs[substr($0, 1, i - 1)] = substr($0, i + 1) }
-        END { visit(program); print count }' "$root/crates.txt"
+        i = index($0, ":") { split($0, words, /[: ]/); needs[words[1]] = substr($0, i + 1) }
+        END { visit(asked) }' "$root/crates.txt"
 }
 
-# tell_progress COUNT: reads what rt prints, and tells how many crates of so many are proved. Its status is rt's.
-tell_progress() {
-    proved=0 ended=2
-    while IFS= read -r line; do
-        case $line in
-        'rt: '*' proved ('*)
-            proved=$((proved + 1))
-            printf '%s: %s of %s crates\n' "$name" "$proved" "$1" >&2
-            ;;
-        'rt ended with '*) ended=${line##* } ;;
-        esac
-    done
-    return "$ended"
+# make_crate CRATE: it is proved and built, and what it leans on before it. rt also runs a program, which has nothing to read here.
+make_crate() {
+    if [ -e "$root/crates/$1/src/main.rt" ]; then
+        (cd "$root/crates/$1" && rt run) </dev/null
+    else
+        (cd "$root/crates/$1" && rt lib) </dev/null
+    fi
+}
+
+# put_built FILE TARGET: what rt made is there under another name too, and as it was where nothing has changed.
+put_built() {
+    cmp -s "$root/$1" "$root/$2" && return
+    mkdir -p "$root/${2%/*}" && cp -f "$root/$1" "$root/$2.new" && mv -f "$root/$2.new" "$root/$2"
+}
+
+# make_program PROGRAM: target/bin/PROGRAM. make_archive: target/staticlib/libnavuloqu.a. For those who have locked target/.
+make_program() {
+    make_crate "$1" && put_built "crates/$1/out/$1" "target/bin/$1"
+}
+
+make_archive() {
+    make_crate navuloqu_c && put_built crates/navuloqu_c/out/libnavuloqu_c.a target/staticlib/libnavuloqu.a
 }
 
 # run PROGRAM: the script ends as the program did. A note that it makes on standard error is told.
@@ -132,9 +149,10 @@ run() {
 }
 
 # judge: by `status` and by what a program `said` on standard error. That is told, and is a failure: a program of the kit sets no exit status. A reader that
-# has enough of the output ends the program by a signal, quietly, as it does others.
+# has enough of the output ends the script quietly, as it does others.
 judge() {
     [ "$status:$said" != 0: ] || return 0
+    ! is_enough || exit 141
     [ -z "$said" ] || printf '%s\n' "$said" >&2
     case $status in
     0) exit 2 ;;
@@ -143,12 +161,21 @@ judge() {
     esac
 }
 
-# find_emulator: programs are for x86-64. On another processor the kit has an emulator, its loader and its C library beside the compiler.
+# is_enough: the reader of the output is gone. A program of the kit hears no signal then and says so, and the script ends as by the signal, unless who
+# started it wants to be told: then the signal is ignored here too.
+is_enough() {
+    case $said in
+    *': cannot write standard output: Broken pipe') ! sh -c 'kill -s PIPE $$' 2>/dev/null ;;
+    *) false ;;
+    esac
+}
+
+# find_emulator: programs are for x86-64. A kit for another processor has an emulator, its loader and its C library beside the compiler.
 find_emulator() {
     emulator=''
     [ "$(uname -m)" != x86_64 ] || return 0
     command -v rt >/dev/null 2>&1 || die 'on this processor the program needs the emulator of the Rattle kit, and rt is not in PATH'
-    emulator=$(dirname "$(dirname "$(rt doc)")")/on/$(uname -m)/toolchain
+    emulator=$(dirname "$(rt doc)")/on/$(uname -m)/toolchain
     [ -x "$emulator/bin/qemu-x86_64" ] || die "the kit has no emulator for this processor at $emulator"
 }
 
