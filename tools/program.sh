@@ -91,7 +91,7 @@ prove() {
         proved=$((proved + 1))
         printf '%s: %s of %s crates\n' "$name" "$proved" "$(printf '%s\n' "$made_of" | wc -l)" >&2
     done
-    put_built "crates/$1/out/$1" "target/bin/$1" || die "rt run left no crates/$1/out/$1: remove that folder and try again"
+    put_built "crates/$1/out/$1" "target/bin/$1" 2>/dev/null || die "rt run left no crates/$1/out/$1: remove that folder and try again"
     mv "$stamp.new" "$stamp" || exit 2
 }
 
