@@ -46,7 +46,7 @@ all_falls c = c.falls + c.late_falls
 abbrev pub as_heard : Counts → Counts
 as_heard c = record { cycles = c.cycles; rises = all_rises c; falls = all_falls c; cuts = c.cuts; late_rises = 0; late_falls = 0 }
 
--- 02 (iii): "Late ones go to a fifth number", rises and falls together. 32 bits hold it: a call has 3 for each of its samples at most (`late-whole` in proofs/Oscillators).
+-- 02 (iii): "Late ones go to a fifth number", rises and falls together. 32 bits hold it: a call has 3 for each of its samples at most (`late_whole` in proofs/Oscillators).
 abbrev pub late : Counts → ℕ
 late c = (c.late_rises + c.late_falls) % 2 ^ 32
 

@@ -1,4 +1,4 @@
--- What is promised over words, to a caller in another language. What such a call leaves is `renderFace` in specs/Words.antt of each face, the contract of each exported function: the
+-- What is promised over words, to a caller in another language. What such a call leaves is `render_face` in specs/Words.antt of each face, the contract of each exported function: the
 -- oscillator's own call, put into words. Here, of that: which words are refused as a bad state, when words stay, and what is returned. Assumes nothing.
 use Rattle.std.specs.Prelude.{◌≡◌, List, [], ℕ, ◌≤◌, ◌<◌, get_or, Float}
 use Rattle.words.specs.Face.{Face, no_state, AnsweredOrKept}

@@ -20,7 +20,7 @@ no_crossings = record { rises = 0; falls = 0; late_rises = 0; late_falls = 0 }
 abbrev pub start_of : Float → Bool → Float → Edge
 start_of phase high thisSample = record { phase = phase; high = high; this_sample = thisSample; next_sample = zero32; reset = false; reset_time = zero32; crossings = no_crossings }
 
--- one more where it holds. 32 bits hold the number, and a sample rises twice at most (`crossed-of` in proofs/CrossingLoop): it never starts again at 0.
+-- one more where it holds. 32 bits hold the number, and a sample rises twice at most (`crossed_of` in proofs/CrossingLoop): it never starts again at 0.
 abbrev pub one_more_if : Bool → ℕ → ℕ
 one_more_if b n = (n + one_if b) % 2 ^ 32
 

@@ -15,7 +15,7 @@ turns (suc k) width rise fall e =
     (let r = cond e.high e (rise e) in
     cond (lt r.phase one32) r (turns k width rise fall (fall r)))
 
--- Two turns are all it makes: `two-turns` in proofs/CrossingLoop shows that more change nothing, since it has then left by its own break.
+-- Two turns are all it makes: `two_turns` in proofs/CrossingLoop shows that more change nothing, since it has then left by its own break.
 abbrev pub crossing_loop : Float → (Edge → Edge) → (Edge → Edge) → Edge → Edge
 crossing_loop width rise fall e = turns 2 width rise fall e
 
@@ -35,7 +35,7 @@ pub record Falls (e r : Edge) : Type 0 where
   pub reset : r.reset ≡ e.reset
   pub counts : r.crossings ≡ fell (is_late e t) e.crossings
 
--- what `two-turns` asks of an oscillator: the width that it rises at, a rise, and a fall
+-- what `two_turns` asks of an oscillator: the width that it rises at, a rise, and a fall
 pub record Crosses : Type 0 where
   pub width : Float
   pub rise : Edge → Edge

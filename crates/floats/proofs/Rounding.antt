@@ -1,8 +1,8 @@
 -- Rounding to binary32 over whole numbers: n / d units become the nearest multiple of 2 ^ k units, a tie the even one, where k is how many digits of the whole part exceed 24.
 -- A unit is 2 ^ -149, binary32's smallest value. Nothing here is about floats.
--- The kit proves some of this for any number of digits, but keeps it to itself, so that it stands here again for 24: of `lib.Ieee.Order` size_mono, same-drop (here `same-cut`),
--- kept_le, all_in_use, kept_ge, fewer, room and grid-mono (`rnd-mono`); of `lib.Ieee.Nearest` Cmp and cmp (`Compared`, `compared`); of `lib.Ieee.Exact` above_zero and
--- spare (`less`). What the kit has not are the bounds on an error (`closest-err`, `rnd-err`, `rnd-off`) and `rnd-exact` over whole numbers. Assumes nothing.
+-- The kit proves some of this for any number of digits, but keeps it to itself, so that it stands here again for 24: of `lib.Ieee.Order` size_mono, same_drop (here `same_cut`),
+-- kept_le, all_in_use, kept_ge, fewer, room and grid_mono (`rnd_mono`); of `lib.Ieee.Nearest` Cmp and cmp (`Compared`, `compared`); of `lib.Ieee.Exact` above_zero and
+-- spare (`less`). What the kit has not are the bounds on an error (`closest_err`, `rnd_err`, `rnd_off`) and `rnd_exact` over whole numbers. Assumes nothing.
 use mathlib.Core.Path.{◌≡◌, sym, ap, ◌∙◌, subst}
 use mathlib.Core.Logic.{inl, inr}
 use Prim.Native.Nat.compare

@@ -7,7 +7,7 @@ use Rattle.nes_triangle.specs.State.{init_state}
 use Rattle.nes_triangle.specs.Block.{render_of}
 use Rattle.words.specs.Face.{Face, face_of, no_bool, no_state, bits_of, signed_of, unsigned_of}
 
--- the state of the words, field by field. A word for `step` that is a negative number gives a state outside its range: `negative-step` in proofs/BadWords.antt
+-- the state of the words, field by field. A word for `step` that is a negative number gives a state outside its range: `negative_step` in proofs/BadWords.antt
 unfoldable pub state_of : List ℕ → State
 state_of w = record {
   phase = f32 (get_or w 0 0);

@@ -6,7 +6,7 @@ use Rattle.string_synth.specs.State.{init_state}
 use Rattle.string_synth.specs.Block.{render_of}
 use Rattle.words.specs.Face.{Face, face_of, bits_of, signed_of, unsigned_of}
 
--- the state of the words, field by field. A word for `segment` that is a negative number gives a state outside its range: `negative-segment` in proofs/BadWords.antt
+-- the state of the words, field by field. A word for `segment` that is a negative number gives a state outside its range: `negative_segment` in proofs/BadWords.antt
 unfoldable pub state_of : List ℕ → State
 state_of w = record {
   phase = f32 (get_or w 0 0);

@@ -43,7 +43,7 @@ courses s frequency shape =
 abbrev pub refused : Answer → State → Rendered
 refused answer s = record { answer = answer; state = s; counts = no_counts }
 
--- A sample in parts, with the crossings of both ways in one place: that the parts make `sampleOf` is shown in proofs/Samples. Before the crossings, with a reset
+-- A sample in parts, with the crossings of both ways in one place: that the parts make `sample_of` is shown in proofs/Samples. Before the crossings, with a reset
 unfoldable pub reset_start : State → Float → Float → Float → Start
 reset_start s masterFrequency slaveFrequency masterPhase =
     let time = reset_time masterPhase masterFrequency in

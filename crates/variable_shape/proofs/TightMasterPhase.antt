@@ -26,7 +26,7 @@ same_set r q e =
 pub set_master_phase_tight : Determines (ended_of _ set_master_phase.Kinds.ps set_master_phase.Kinds.r) set_master_phase.Reads.Learnt
 set_master_phase_tight κs a r q v w h k = (same_set r q (coincide h k), refl)
 
--- The kit writes no `Reads` for a function that is proved by hand: this is its `ensures`, read by the kit's own rules.
+-- The lent form: its `ensures`, read by the kit's own rules.
 module _ (κs : Lfts 1) (a : Args lent.signature κs) (r : Res lent.signature κs) (e : AtExit lent.ended κs) where
   abbrev clause : (w : World) → Pr w
   clause w = (lent.clauses w.𝓛 w.𝓜.mem w.𝓡.run κs a).ensures tt r e

@@ -55,7 +55,7 @@ courses s masterFrequency frequency pw waveshape phaseModulation phaseOutput =
 abbrev pub modulation_room : Bool → Room
 modulation_room phaseOutput = cond phaseOutput ModulationOrGain Unused
 
--- A sample in parts, with the crossings of both ways in one place: that the parts make `sampleOf` is shown in proofs/Samples. Before the crossings, with a reset
+-- A sample in parts, with the crossings of both ways in one place: that the parts make `sample_of` is shown in proofs/Samples. Before the crossings, with a reset
 unfoldable pub reset_start : State → Steps → Waveform → Float → Start
 reset_start s steps w masterPhase =
     let time = reset_time masterPhase steps.master_frequency in
