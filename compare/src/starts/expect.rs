@@ -76,7 +76,7 @@ fn phase_set(record: &Record) -> String {
     format!("{number}{exported} {number}{by_value} {number}{by_value}")
 }
 
-/// Exported, by value.
+/// Exported, on a lent state.
 fn classic_started(record: &Record) -> String {
     let given: [u32; CLASSIC_WORDS] = std::array::from_fn(|i| record.state[i]);
     let (number, exported) = init(&given, record.given);

@@ -1,4 +1,5 @@
 -- A record is malformed, or a call of one oscillator from its state in the bank: what holds of both holds of every record. Assumes nothing.
+use Rattle.std.specs.Prelude.{Option, None, Some}
 use mathlib.Core.Path.{◌≡◌, refl}
 use mathlib.Core.List.{List}
 use Prim.Native.Nat.{ℕ}
@@ -7,8 +8,6 @@ use Rattle.block.specs.Oscillator.{Oscillator, call_of}
 use Rattle.jobs.specs.Record.{job_of}
 use Rattle.jobs.specs.declared.Settings.{Settings}
 use Rattle.jobs.specs.declared.Settings.TheVariants.{VariableShape, VariableSaw, SuperSquare, NesTriangle, StringSynth, Classic}
-use Rattle.jobs.specs.declared.Asked.{Asked}
-use Rattle.jobs.specs.declared.Asked.TheVariants.{BadRecord, Play}
 use Rattle.variable_shape.specs.Block as Shape
 use Rattle.variable_saw.specs.Block as Saw
 use Rattle.super_square.specs.Block as Square
@@ -23,12 +22,12 @@ pub by_settings : (b : Bank) (registration : List Float) (P : (List Float → Ma
     → ((S A : Type 0) (o : Oscillator S A) (s : S) (put : S → Bank) (lent : List Float → A) → put s ≡ b → ((xs : List Float) → o.buffer (lent xs) ≡ xs) → P (λ xs. played put (call_of o s (lent xs))))
     → (t : Settings) → P (λ xs. settings_played b t registration xs)
 unfolding shape_played saw_played super_square_played nes_played string_played classic_played
-by_settings b registration P call (VariableShape f m w v d sync out) = call _ _ (Shape.variable_shape sync) b.shape (with_shape b) _ refl (λ xs. refl)
-by_settings b registration P call (VariableSaw f w v) = call _ _ Saw.variable_saw b.saw (with_saw b) _ refl (λ xs. refl)
-by_settings b registration P call (SuperSquare f h) = call _ _ Square.super_square b.super_square (with_super_square b) _ refl (λ xs. refl)
-by_settings b registration P call (NesTriangle f n) = call _ _ Nes.nes_triangle b.nes (with_nes b) _ refl (λ xs. refl)
+by_settings b registration P call (VariableShape p) = call _ _ (Shape.variable_shape p.sync) b.shape (with_shape b) _ refl (λ xs. refl)
+by_settings b registration P call (VariableSaw p) = call _ _ Saw.variable_saw b.saw (with_saw b) _ refl (λ xs. refl)
+by_settings b registration P call (SuperSquare p) = call _ _ Square.super_square b.super_square (with_super_square b) _ refl (λ xs. refl)
+by_settings b registration P call (NesTriangle p) = call _ _ Nes.nes_triangle b.nes (with_nes b) _ refl (λ xs. refl)
 by_settings b registration P call (StringSynth f g) = call _ _ Strings.string_synth b.string (with_string b) _ refl (λ xs. refl)
-by_settings b registration P call (Classic f w h) = call _ _ Classics.classic b.classic (with_classic b) _ refl (λ xs. refl)
+by_settings b registration P call (Classic p) = call _ _ Classics.classic b.classic (with_classic b) _ refl (λ xs. refl)
 
 -- and what a record makes
 pub by_record : (b : Bank) (p : List ℕ) (P : Made → Type 0) → P (refused_record b)
@@ -39,6 +38,6 @@ by_record b p P bad call = go (job_of p).asked
     zeros : List Float
     zeros = silence (job_of p).block_length
 
-    go : (asked : Asked) → P (asked_played b asked (job_of p).registration zeros)
-    go BadRecord = bad
-    go (Play t) = by_settings b (job_of p).registration (λ (f : List Float → Made). P (f zeros)) (λ S A o s put lent same long. call S A o s put (lent zeros) same (long zeros)) t
+    go : (asked : Option Settings) → P (asked_played b asked (job_of p).registration zeros)
+    go None = bad
+    go (Some t) = by_settings b (job_of p).registration (λ (f : List Float → Made). P (f zeros)) (λ S A o s put lent same long. call S A o s put (lent zeros) same (long zeros)) t

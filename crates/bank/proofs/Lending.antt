@@ -1,17 +1,18 @@
--- A record's samples in a lent buffer: what each way leaves, and the copy. Assumes nothing.
-use mathlib.Core.Path.{◌≡◌, refl, subst, ◌∙◌}
+-- A record's samples in a lent buffer: what each way leaves. Assumes nothing.
+use Rattle.std.specs.Prelude.{Result, Ok, Err}
+use mathlib.Core.Path.{◌≡◌, refl, sym, ap}
 use mathlib.Core.List.{List, [], ◌++◌}
-use Prim.Native.Nat.{ℕ, suc, ◌+◌, ◌≤◌, ◌<◌}
-use native.Mathlib.Nat.{zero-add}
-use native.Mathlib.Numerals.{add-one}
+use Prim.Native.Nat.{◌≤◌, ◌<◌}
 use native.Mathlib.Omega.{arith}
-use borrow.Author.Tests.{le-leb, lt-leb, eq-eqb, ne_eqb}
-use lib.ListN.{length, get_or, drop, set, length-set}
-use lib.Seq.{paste, paste-zero, paste-suc, take_all}
+use borrow.Author.Tests.{le-leb, lt-leb}
+use lib.ListN.{length, drop}
 use lib.Ieee.{Float}
 use Rattle.bank.specs.declared.Bank.{Bank}
-use Rattle.bank.specs.declared.Played.{Played}
-use Rattle.bank.specs.Bank.{Made}
+use Rattle.block.specs.declared.refusal.Refusal.{Refusal}
+use Rattle.block.specs.declared.refusal.Refusal.TheVariants.{LongBlock, BadRegistration, BadState, BadParam, TooHigh, Drift, BadRecord, BadInput, NoRoom}
+use Rattle.block.specs.declared.Counts.{Counts}
+use Rattle.block.specs.Calls.{Call, gave}
+use Rattle.bank.specs.Bank.{Made, played}
 use Rattle.bank.specs.Lent.{handed_back, no_room, handed}
 use Rattle.bank.specs.Private.{made_of}
 
@@ -21,7 +22,7 @@ module _ (b : Bank) (m : Made) (d : List Float) where
   unfolding handed
   with_room h = rw (le-leb (length m.samples) (length d) h)
 
-  pub without_room : length d < length m.samples → handed b m d ≡ handed_back (no_room b) d
+  pub without_room : length d < length m.samples → handed b m d ≡ no_room b d
   unfolding handed
   without_room h = rw (lt-leb (length m.samples) (length d) h)
 
@@ -29,39 +30,28 @@ module _ (b : Bank) (m : Made) (d : List Float) where
   unfolding handed
   without_samples e = rw (e, le-leb 0 (length d) (omega arith))
 
--- the three ways of the function
-module _ (b : Bank) (r : Played) (xs d : List Float) where
-  pub refused_way : (r.outcome.answer ≡ 0 → ⊥) → handed_back r d ≡ handed b (made_of r xs) d
-  refused_way h = rw (without_samples b (made_of r xs) d (rw (ne_eqb r.outcome.answer 0 h)))
+-- a call on its oscillator's state is the bank's
+pub played_is : {S : Type 0} (put : S → Bank) (r : Result Counts Refusal) (s : S) (xs : List Float) {c : Call S} → gave r s xs ≡ c → made_of r (put s) xs ≡ played put c
+played_is put r s xs e = ap (played put) e
 
-  module _ (h : r.outcome.answer ≡ 0) where
-    made : made_of r xs ≡ record { bank = r.bank; outcome = r.outcome; samples = xs }
-    made = rw (eq-eqb r.outcome.answer 0 h)
+-- the three ways of the function, where the call left the bank b'
+module _ (b b' : Bank) (xs d : List Float) where
+  pub refused_way : (e : Refusal) → handed_back (Err e) b' d ≡ handed b (made_of (Err e) b' xs) d
+  refused_way e = sym (without_samples b (made_of (Err e) b' xs) d (none e))
+    where
+      none : (e : Refusal) → (made_of (Err e) b' xs).samples ≡ []
+      none LongBlock = refl
+      none BadRegistration = refl
+      none BadState = refl
+      none BadParam = refl
+      none TooHigh = refl
+      none (Drift i) = refl
+      none BadRecord = refl
+      none BadInput = refl
+      none NoRoom = refl
 
-    pub long_way : (q : Played) → length d < length xs → q ≡ no_room b → handed_back q d ≡ handed b (made_of r xs) d
-    long_way q l e = rw (e, made, without_room b (record { bank = r.bank; outcome = r.outcome; samples = xs }) d l)
+  pub long_way : (c : Counts) → length d < length xs → handed_back (Err NoRoom) b d ≡ handed b (made_of (Ok c) b' xs) d
+  long_way c l = sym (without_room b (made_of (Ok c) b' xs) d l)
 
-    pub room_way : (d' : List Float) → length xs ≤ length d → d' ≡ xs ++ drop (length xs) d → handed_back r d' ≡ handed b (made_of r xs) d
-    room_way d' l e = rw (e, made, with_room b (record { bank = r.bank; outcome = r.outcome; samples = xs }) d l)
-
--- i samples are copied
-pub record Copied (d t d' : List Float) (i : ℕ) : Type 0 where
-  pub most : i ≤ length t
-  pub room : length t ≤ length d
-  pub same : d' ≡ paste d 0 t i
-  pub long : length d' ≡ length d
-
-pub copied_start : (d t : List Float) → length t ≤ length d → Copied d t d 0
-copied_start d t h = record { most = omega arith; room = h; same = paste-zero d 0 t; long = refl }
-
-module _ (d t d' : List Float) (i : ℕ) (p : Copied d t d' i) where
-  pub copied_more : (z : Float) → i < length t → Copied d t (set d' i (get_or t i z)) (i + 1)
-  copied_more z h = record {
-    most = omega arith;
-    room = p.room;
-    same = rw (p.same, add-one) (subst (λ (k : ℕ). set (paste d 0 t i) k (get_or t i z) ≡ paste d 0 t (suc i)) (zero-add i) (paste-suc d 0 t i z (omega (arith, p.room)) h));
-    long = simp length-set p.long;
-  }
-
-  pub copied_end : length t ≤ i → d' ≡ t ++ drop (length t) d
-  copied_end h = let e : i ≡ length t = omega (arith, p.most) in p.same ∙ rw (e, zero-add, take_all (length t) t (omega arith))
+  pub room_way : (c : Counts) → length xs ≤ length d → handed_back (Ok c) b' (xs ++ drop (length xs) d) ≡ handed b (made_of (Ok c) b' xs) d
+  room_way c l = sym (with_room b (made_of (Ok c) b' xs) d l)

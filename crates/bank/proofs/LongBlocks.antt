@@ -2,7 +2,7 @@
 use mathlib.Core.Path.{◌≡◌, refl, sym, ap, ◌∙◌}
 use mathlib.Core.Bool.{Bool, true, false}
 use mathlib.Core.List.{List}
-use Prim.Native.Nat.{ℕ, zero, suc, ◌≤◌, ◌<◌, ◌-◌}
+use Prim.Native.Nat.{ℕ, zero, suc, ◌≤◌, ◌<◌}
 use native.Mathlib.Omega.{arith}
 use borrow.Author.Tests.{leb-true, leb-false}
 use lib.Dec.{leb}
@@ -45,5 +45,5 @@ lent_most n = go (leb n 4097) refl
     go false h = rw h (omega arith)
 
 -- as the code lends it
-pub lent_part : (b : Bank) (s : Settings) (registration : List Float) (n e m : ℕ) → m ≡ 4097 → e ≡ lent_of n → settings_played b s registration (take (e - 0) (silence m)) ≡ settings_played b s registration (silence n)
-lent_part b s registration n e m q h = let z : e - 0 ≡ lent_of n = omega (arith, h) in rw z (lent_same b s registration n m q)
+pub lent_part : (b : Bank) (s : Settings) (registration : List Float) (n e m : ℕ) → m ≡ 4097 → e ≡ lent_of n → settings_played b s registration (take e (silence m)) ≡ settings_played b s registration (silence n)
+lent_part b s registration n e m q h = rw h (lent_same b s registration n m q)

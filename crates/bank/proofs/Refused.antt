@@ -11,7 +11,7 @@ use Rattle.block.specs.Oscillator.{call_of}
 use Rattle.block.proofs.Oscillators.{refused_state}
 use Rattle.bank.specs.declared.Bank.{Bank}
 use Rattle.bank.specs.Bank.{Made, record_played}
-use Rattle.bank.specs.Lent.{Handed, handed_back, no_room, handed, play_of}
+use Rattle.bank.specs.Lent.{Handed, no_room, handed, play_of}
 use Rattle.bank.proofs.EachKind.{by_record}
 
 -- 01: "A refused record changes nothing": no state
@@ -31,7 +31,7 @@ play_kept b p d = go (leb (length (record_played b p).samples) (length d))
     given t =
         cond t
         (record { bank = (record_played b p).bank; outcome = (record_played b p).outcome; buffer = (record_played b p).samples ++ drop (length (record_played b p).samples) d })
-        (handed_back (no_room b) d)
+        (no_room b d)
 
     go : (t : Bool) → ((given t).outcome.answer ≡ 0 → ⊥) → ((given t).bank ≡ b) × ((given t).buffer ≡ d)
     go true h = (record_kept b p h, rw (record_silent b p h))

@@ -1,17 +1,14 @@
 -- What one record makes: of the six states, what its line says, and its samples. Assumes nothing.
-use Rattle.std.specs.Prelude.{Bool, cond, List, [], ℕ, eqb, replicate, Float}
+use Rattle.std.specs.Prelude.{Bool, cond, Option, None, Some, List, [], ℕ, eqb, replicate, Float, Result, Err}
 use Rattle.floats.specs.F32.{f32, zero32}
-use Rattle.block.specs.declared.Answer.{Answer}
-use Rattle.block.specs.declared.Answer.TheVariants.{BadRecord}
+use Rattle.block.specs.declared.refusal.Refusal.{Refusal}
+use Rattle.block.specs.declared.refusal.Refusal.TheVariants.{BadRecord}
 use Rattle.block.specs.declared.Counts.{Counts}
 use Rattle.block.specs.Answers.{number_of, index_of}
-use Rattle.block.specs.Counting.{no_counts}
-use Rattle.block.specs.Calls.{Call}
+use Rattle.block.specs.Calls.{Call, counted}
 use Rattle.jobs.specs.Record.{job_of}
 use Rattle.jobs.specs.declared.Settings.{Settings}
 use Rattle.jobs.specs.declared.Settings.TheVariants.{VariableShape, VariableSaw, SuperSquare, NesTriangle, StringSynth, Classic}
-use Rattle.jobs.specs.declared.Asked.{Asked}
-use Rattle.jobs.specs.declared.Asked.TheVariants.{BadRecord as Malformed, Play}
 use Rattle.variable_shape.specs.State as ShapeStart
 use Rattle.variable_shape.specs.Block as Shape
 use Rattle.variable_saw.specs.State as SawStart
@@ -32,7 +29,6 @@ use Rattle.string_synth.specs.declared.State.{State as StringState}
 use Rattle.classic.specs.declared.State.{State as ClassicState}
 use Rattle.classic.specs.declared.OscillatorShape.{OscillatorShape}
 use Rattle.bank.specs.declared.Bank.{Bank}
-use Rattle.bank.specs.declared.Outcome.{Outcome}
 
 -- 02 (i): "the sample rate, 8,000 to 384,000 (48,000 in the renderer)"
 abbrev pub sample_rate : Float
@@ -49,15 +45,21 @@ init_bank = record {
   classic = ClassicStart.initial_state sample_rate;
 }
 
+-- what a record's line says after its index: the answer's number, Drift's index or 0, and the counts
+pub record Outcome : Type 0 where
+  pub answer : ℕ
+  pub drift : ℕ
+  pub counts : Counts
+
 -- what a record makes: the states after it, what its line says, and its samples
 pub record Made : Type 0 where
   pub bank : Bank
   pub outcome : Outcome
   pub samples : List Float
 
--- what a line says of an answer and counts
-abbrev pub told_of : Answer → Counts → Outcome
-told_of answer counts = record { answer = number_of answer; drift = index_of answer; counts = counts }
+-- what a line says of an answer
+abbrev pub told_of : Result Counts Refusal → Outcome
+told_of answer = record { answer = number_of answer; drift = index_of answer; counts = counted answer }
 
 -- and of a call
 abbrev pub outcome_of : {S : Type 0} → Call S → Outcome
@@ -112,12 +114,12 @@ classic_played b frequency pw shape xs = played (with_classic b) (Classics.rende
 
 -- the call that the settings ask for, with the registration that stands beside them
 abbrev pub settings_played : Bank → Settings → List Float → List Float → Made
-settings_played b (VariableShape frequency masterFrequency pw waveshape phaseModulation sync phaseOutput) registration xs = shape_played b masterFrequency frequency pw waveshape phaseModulation sync phaseOutput xs
-settings_played b (VariableSaw frequency pw waveshape) registration xs = saw_played b frequency pw waveshape xs
-settings_played b (SuperSquare frequency shape) registration xs = super_square_played b frequency shape xs
-settings_played b (NesTriangle frequency bits) registration xs = nes_played b frequency bits xs
+settings_played b (VariableShape p) registration xs = shape_played b p.master_frequency p.frequency p.pw p.waveshape p.phase_modulation p.sync p.phase_output xs
+settings_played b (VariableSaw p) registration xs = saw_played b p.frequency p.pw p.waveshape xs
+settings_played b (SuperSquare p) registration xs = super_square_played b p.frequency p.shape xs
+settings_played b (NesTriangle p) registration xs = nes_played b p.frequency p.num_bits xs
 settings_played b (StringSynth frequency gain) registration xs = string_played b frequency registration gain xs
-settings_played b (Classic frequency pw shape) registration xs = classic_played b frequency pw shape xs
+settings_played b (Classic p) registration xs = classic_played b p.frequency p.pw p.shape xs
 
 -- "the string's buffer is zeroed for each record"; the other kinds overwrite what they find
 abbrev pub silence : ℕ → List Float
@@ -125,12 +127,12 @@ silence n = replicate n zero32
 
 -- "A refused record changes nothing"
 abbrev pub refused_record : Bank → Made
-refused_record b = record { bank = b; outcome = told_of BadRecord no_counts; samples = [] }
+refused_record b = record { bank = b; outcome = told_of (Err BadRecord); samples = [] }
 
 -- what a record asks for: 7 where it is malformed, else the call
-abbrev pub asked_played : Bank → Asked → List Float → List Float → Made
-asked_played b Malformed registration xs = refused_record b
-asked_played b (Play settings) registration xs = settings_played b settings registration xs
+abbrev pub asked_played : Bank → Option Settings → List Float → List Float → Made
+asked_played b None registration xs = refused_record b
+asked_played b (Some settings) registration xs = settings_played b settings registration xs
 
 -- "then 7 for each record, then makes the call", on as many zeros as the record says
 unfoldable pub record_played : Bank → List ℕ → Made

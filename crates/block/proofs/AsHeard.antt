@@ -3,7 +3,8 @@ use Rattle.std.proofs.Common.{◌≡◌, ℕ, ◌+◌, List, [], ◌∷◌, sym,
 use lib.Ieee.{Float}
 use Rattle.block.specs.declared.Counts.{Counts}
 use Rattle.block.specs.Counting.{no_counts, plus, all_rises, all_falls, as_heard}
-use Rattle.block.specs.Play.{Sample, Heard, play}
+use Rattle.block.specs.declared.sample.Sample.{Sample}
+use Rattle.block.specs.Play.{Heard, play}
 use Rattle.block.specs.Calls.{Call, call_as_heard}
 use Rattle.block.specs.Oscillator.{Oscillator, call_of, steps_in, Way, refused, drifted, answered}
 use Rattle.block.specs.Limits.{NoneLate}

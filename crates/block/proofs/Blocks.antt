@@ -3,18 +3,19 @@ use Rattle.std.proofs.Common.{◌≡◌, ℕ, zero, suc, ◌+◌, ◌≤◌, Boo
 use lib.Ieee.{Float}
 use Rattle.floats.specs.F32.{zero32}
 use Rattle.parameter_interpolator.specs.declared.ParameterInterpolator.{ParameterInterpolator}
-use Rattle.rooms.specs.declared.Found.TheVariants.{Nowhere}
+use Rattle.std.specs.Prelude.{None}
 use Rattle.rooms.specs.Steps.{moved, values, steps_of, first_outside}
 use Rattle.rooms.proofs.Padding.{moved_length}
 use Rattle.block.specs.declared.Counts.{Counts}
 use Rattle.block.specs.Counting.{plus, total}
-use Rattle.block.specs.Play.{Sample, Heard, play}
+use Rattle.block.specs.declared.sample.Sample.{Sample}
+use Rattle.block.specs.Play.{Heard, play}
 use Rattle.block.specs.Checks.{InOrder, AllPass}
 use Rattle.block.specs.Oscillator.{Oscillator, checks_of, sample_counts, column}
 use Rattle.block.specs.Limits.{Limited, EachLimited, Few, Balanced}
 use Rattle.block.specs.Account.{Phases32}
 use Rattle.block.specs.Fit.{Inside}
-use Rattle.block.proofs.Plays.{few_more, Keeps, nowhere_first}
+use Rattle.block.proofs.Plays.{Keeps, few_more, nowhere_first}
 use Rattle.block.proofs.Accounts.{OneSample, steps_one, Told, stood, went, told_join}
 
 -- What an oscillator hands in. `Valid` is what the checks of a call make sure of and each of its samples keeps. A cycle is w units, and a sample's account may miss by e.
@@ -55,7 +56,7 @@ module _ {S A : Type 0} {o : Oscillator S A} {Valid : A → S → Type 0} {w e :
   pub record Coming (m : ℕ) (ps : List ParameterInterpolator) (xs : List Float) (s : S) : Type 0 where
     pub long : length xs ≡ m
     pub paired : length ps ≡ length (o.rooms a)
-    pub inside : first_outside (o.rooms a) (steps_of m ps) ≡ Nowhere
+    pub inside : first_outside (o.rooms a) (steps_of m ps) ≡ None
     pub valid : Valid a s
 
   module _ {m : ℕ} {ps : List ParameterInterpolator} {x : Float} {xs : List Float} {s : S} (k : Coming (suc m) ps (x ∷ xs) s) where

@@ -3,7 +3,8 @@ use Rattle.std.proofs.Common.{◌≡◌, suc, ◌≤◌, List, [], ◌∷◌, le
 use lib.Ieee.{Float}
 use Rattle.block.specs.declared.Counts.{Counts}
 use Rattle.block.specs.Counting.{no_counts}
-use Rattle.block.specs.Play.{Sample, play}
+use Rattle.block.specs.declared.sample.Sample.{Sample}
+use Rattle.block.specs.Play.{play}
 use Rattle.block.specs.Calls.{Call}
 use Rattle.block.specs.Oscillator.{Oscillator, call_of, steps_in, Way, refused, drifted, answered}
 use Rattle.block.proofs.Ways.{way}

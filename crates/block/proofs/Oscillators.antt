@@ -3,7 +3,7 @@ use Rattle.std.proofs.Common.{◌≡◌, ℕ, ◌+◌, ◌<◌, Bool, false, con
 use borrow.Author.Tests.{lt-leb}
 use lib.Ieee.{Float}
 use Rattle.floats.specs.F32.{zero32}
-use Rattle.rooms.specs.declared.Found.TheVariants.{Nowhere}
+use Rattle.std.specs.Prelude.{None}
 use Rattle.rooms.specs.Steps.{steps_of, first_outside}
 use Rattle.block.specs.declared.Counts.{Counts}
 use Rattle.block.specs.Counting.{no_counts, plus, total, late}
@@ -39,17 +39,17 @@ module _ {S A : Type 0} (o : Oscillator S A) (s : S) (a : A) where
   -- an empty block that passes its checks
   pub empty_answered : o.buffer a ≡ [] → AllPass (checks_of o s a) → call_of o s a ≡ record { number = 0; index = 0; state = s; counts = no_counts; samples = [] }
   unfolding first_outside steps_of play
-  empty_answered e p = let n : first_outside (o.rooms a) (steps_in o s a) ≡ Nowhere = rw e refl in goes o s a (answered p n) ∙ rw e refl
+  empty_answered e p = let n : first_outside (o.rooms a) (steps_in o s a) ≡ None = rw e refl in goes o s a (answered p n) ∙ rw e refl
 
 module _ {S A : Type 0} {o : Oscillator S A} {Valid : A → S → Type 0} {w e : ℕ} (l : Laws o Valid w e) where
   ways : (s : S) (a : A) (P : Call S → Type 0) → ((number index : ℕ) → eqb number 0 ≡ false → P (refusal number index s (o.buffer a)))
-      → (AllPass (checks_of o s a) → first_outside (o.rooms a) (steps_in o s a) ≡ Nowhere → P (done (heard_of o s a))) → P (call_of o s a)
+      → (AllPass (checks_of o s a) → first_outside (o.rooms a) (steps_in o s a) ≡ None → P (done (heard_of o s a))) → P (call_of o s a)
   ways s a = by_ways o s a (l.ordered s a)
 
   -- 0 is given only where every check passes and no step lies outside its room
-  pub answered_fit : (s : S) (a : A) → (call_of o s a).number ≡ 0 → AllPass (checks_of o s a) × (first_outside (o.rooms a) (steps_in o s a) ≡ Nowhere)
+  pub answered_fit : (s : S) (a : A) → (call_of o s a).number ≡ 0 → AllPass (checks_of o s a) × (first_outside (o.rooms a) (steps_in o s a) ≡ None)
   answered_fit s a =
-      ways s a (λ (c : Call S). c.number ≡ 0 → AllPass (checks_of o s a) × (first_outside (o.rooms a) (steps_in o s a) ≡ Nowhere)) (λ number index h. not_done number h) (λ p h q. (p, h))
+      ways s a (λ (c : Call S). c.number ≡ 0 → AllPass (checks_of o s a) × (first_outside (o.rooms a) (steps_in o s a) ≡ None)) (λ number index h. not_done number h) (λ p h q. (p, h))
 
   -- an answered call is its samples, and its counts are theirs, added up
   pub answered_samples : (s : S) (a : A) → (call_of o s a).number ≡ 0 → call_of o s a ≡ done (heard_of o s a)
@@ -59,7 +59,7 @@ module _ {S A : Type 0} {o : Oscillator S A} {Valid : A → S → Type 0} {w e :
   answered_counts s a q = ap (λ (c : Call S). c.counts) (answered_samples s a q) ∙ play_total (o.sample a) (steps_in o s a) (o.buffer a) s no_counts
 
   module _ (s : S) (f : Phases32 o s) (a : A) where
-    coming : AllPass (checks_of o s a) → first_outside (o.rooms a) (steps_in o s a) ≡ Nowhere → Coming l a (length (o.buffer a)) (o.moving s a) (o.buffer a) s
+    coming : AllPass (checks_of o s a) → first_outside (o.rooms a) (steps_in o s a) ≡ None → Coming l a (length (o.buffer a)) (o.moving s a) (o.buffer a) s
     coming p h = record { long = refl; paired = l.paired s a; inside = h; valid = l.passed s a f p.1 }
 
     pub answered_valid : (call_of o s a).number ≡ 0 → Valid a (call_of o s a).state

@@ -2,8 +2,8 @@
 use Rattle.std.proofs.Common.{◌≡◌, ℕ, ◌<◌, Bool, true, false, eqb, ◌⊎◌, List, [], ◌∷◌, ◌++◌, length, sym, refl, ap, ◌∙◌, subst, inl, inr, ⊎_elim, true≢false, arith, ne_eqb}
 use lib.Ieee.{Float}
 use Rattle.parameter_interpolator.specs.declared.ParameterInterpolator.{ParameterInterpolator}
-use Rattle.rooms.specs.declared.Found.{Found}
-use Rattle.rooms.specs.declared.Found.TheVariants.{Outside, Nowhere}
+use Rattle.std.specs.Prelude.{Option}
+use Rattle.std.specs.Prelude.{Some, None}
 use Rattle.rooms.specs.Steps.{first_outside}
 use Rattle.rooms.proofs.Padding.{used, used_front}
 use Rattle.block.specs.Calls.{Call, refusal, done, run}
@@ -13,12 +13,12 @@ use Rattle.block.proofs.Runs.{run_drift, run_done}
 
 -- ---- the checks
 module _ {S : Type 0} (s : S) (xs : List Float) (c : Call S) where
-  failing : {ks : List Check} {k : Check} → FirstFailing ks k → checked ks s xs c ≡ refusal k.number 0 s xs
+  pub failing : {ks : List Check} {k : Check} → FirstFailing ks k → checked ks s xs c ≡ refusal k.number 0 s xs
   unfolding checked
   failing (here h) = rw h
   failing (later h f) = rw h (failing f)
 
-  passing : (ks : List Check) → AllPass ks → checked ks s xs c ≡ c
+  pub passing : (ks : List Check) → AllPass ks → checked ks s xs c ≡ c
   unfolding checked
   passing [] p = refl
   passing (k ∷ ks) p = rw p.0 (passing ks p.1)
@@ -72,13 +72,13 @@ module _ {S A : Type 0} (o : Oscillator S A) (s : S) (a : A) where
       this : {c : Call S} → Way o s a c → Way o s a (call_of o s a)
       this w = subst (Way o s a) (sym (goes w)) w
 
-      walked : AllPass (checks_of o s a) → (f : Found) → first_outside (o.rooms a) (steps_in o s a) ≡ f → Way o s a (call_of o s a)
-      walked p (Outside i) h = this (drifted p h)
-      walked p Nowhere h = this (answered p h)
+      walked : AllPass (checks_of o s a) → (f : Option ℕ) → first_outside (o.rooms a) (steps_in o s a) ≡ f → Way o s a (call_of o s a)
+      walked p (Some i) h = this (drifted p h)
+      walked p None h = this (answered p h)
 
   -- what holds of each refusal, and of the samples where the call is answered, holds of the call
   pub by_ways : InOrder 0 (checks_of o s a) → (P : Call S → Type 0) → ((number index : ℕ) → eqb number 0 ≡ false → P (refusal number index s (o.buffer a)))
-      → (AllPass (checks_of o s a) → first_outside (o.rooms a) (steps_in o s a) ≡ Nowhere → P (done (heard_of o s a))) → P (call_of o s a)
+      → (AllPass (checks_of o s a) → first_outside (o.rooms a) (steps_in o s a) ≡ None → P (done (heard_of o s a))) → P (call_of o s a)
   by_ways n P not-answered samples = go way
     where
       go : {c : Call S} → Way o s a c → P c

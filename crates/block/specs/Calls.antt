@@ -1,15 +1,14 @@
 -- What a call leaves, for any oscillator, in 01's numbers. Assumes nothing.
-use Rattle.std.specs.Prelude.{ℕ, List, length, Float}
+use Rattle.std.specs.Prelude.{ℕ, Option, Some, None, Result, Ok, Err, List, length, Float}
 use Rattle.parameter_interpolator.specs.declared.ParameterInterpolator.{ParameterInterpolator}
-use Rattle.block.specs.declared.Answer.{Answer}
+use Rattle.block.specs.declared.refusal.Refusal.{Refusal}
 use Rattle.block.specs.declared.Counts.{Counts}
 use Rattle.rooms.specs.declared.Room.{Room}
-use Rattle.rooms.specs.declared.Found.{Found}
-use Rattle.rooms.specs.declared.Found.TheVariants.{Outside, Nowhere}
 use Rattle.block.specs.Answers.{number_of, index_of}
 use Rattle.block.specs.Counting.{no_counts, as_heard}
 use Rattle.rooms.specs.Steps.{steps_of, first_outside}
-use Rattle.block.specs.Play.{Sample, Heard, play}
+use Rattle.block.specs.declared.sample.Sample.{Sample}
+use Rattle.block.specs.Play.{Heard, play}
 
 -- the answer's number and index, the state, the counts, and the buffer
 pub record Call (S : Type 0) : Type 0 where
@@ -19,9 +18,14 @@ pub record Call (S : Type 0) : Type 0 where
   pub counts : Counts
   pub samples : List Float
 
--- what an oscillator's call gave and left in the buffer, in 01's numbers
-abbrev pub gave : {S : Type 0} → Answer → S → Counts → List Float → Call S
-gave answer s counts xs = record { number = number_of answer; index = index_of answer; state = s; counts = counts; samples = xs }
+-- a call that is done gives its counts, and a refused one none
+abbrev pub counted : Result Counts Refusal → Counts
+counted (Ok counts) = counts
+counted (Err refusal) = no_counts
+
+-- what an oscillator's call gave, and left in the state and in the buffer, in 01's numbers
+abbrev pub gave : {S : Type 0} → Result Counts Refusal → S → List Float → Call S
+gave answer s xs = record { number = number_of answer; index = index_of answer; state = s; counts = counted answer; samples = xs }
 
 -- a refusal gives the state back, counts nothing and touches no sample
 abbrev pub refusal : {S : Type 0} → ℕ → ℕ → S → List Float → Call S
@@ -36,9 +40,9 @@ abbrev pub done : {S : Type 0} → Heard S → Call S
 done h = record { number = 0; index = 0; state = h.state; counts = h.counts; samples = h.samples }
 
 -- Drift where a step lies outside its room, else every sample
-abbrev pub drift_or : {S : Type 0} → Found → S → List Float → Heard S → Call S
-drift_or (Outside i) s xs h = refusal 6 i s xs
-drift_or Nowhere s xs h = done h
+abbrev pub drift_or : {S : Type 0} → Option ℕ → S → List Float → Heard S → Call S
+drift_or (Some i) s xs h = refusal 6 i s xs
+drift_or None s xs h = done h
 
 -- what follows once a call is fit: the steps that the interpolators give are searched, and then played
 unfoldable pub run : {S : Type 0} → (S → List Float → Float → Sample S) → List Room → List ParameterInterpolator → S → List Float → Call S

@@ -8,3 +8,4 @@ pub mod Oscillator
 pub mod Limits
 pub mod Account
 pub mod Fit
+pub mod Voices

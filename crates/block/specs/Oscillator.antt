@@ -3,11 +3,12 @@ use Rattle.std.specs.Prelude.{◌≡◌, ℕ, ◌+◌, cond, List, [], ◌∷◌
 use Rattle.floats.specs.F32.{zero32}
 use Rattle.parameter_interpolator.specs.declared.ParameterInterpolator.{ParameterInterpolator}
 use Rattle.rooms.specs.declared.Room.{Room}
-use Rattle.rooms.specs.declared.Found.TheVariants.{Outside, Nowhere}
+use Rattle.std.specs.Prelude.{Some, None}
 use Rattle.rooms.specs.Steps.{steps_of, first_outside}
 use Rattle.block.specs.declared.Counts.{Counts}
 use Rattle.block.specs.Counting.{no_counts}
-use Rattle.block.specs.Play.{Sample, Heard, play}
+use Rattle.block.specs.declared.sample.Sample.{Sample}
+use Rattle.block.specs.Play.{Heard, play}
 use Rattle.block.specs.Calls.{Call, refusal, done, run}
 use Rattle.block.specs.Checks.{Check, length_check, checked, AllPass, FirstFailing}
 
@@ -52,8 +53,8 @@ counts_of o s a = sample_counts (o.sample a) s (steps_in o s a) (o.buffer a)
 -- ---- which way a call goes: the first check that fails refuses it, else the first sample with a step outside its room, and else it is answered
 pub data Way {S A : Type 0} (o : Oscillator S A) (s : S) (a : A) : Call S → Type 0 where
   refused : {k : Check} → FirstFailing (checks_of o s a) k → Way o s a (refusal k.number 0 s (o.buffer a))
-  drifted : {i : ℕ} → AllPass (checks_of o s a) → first_outside (o.rooms a) (steps_in o s a) ≡ Outside i → Way o s a (refusal 6 i s (o.buffer a))
-  answered : AllPass (checks_of o s a) → first_outside (o.rooms a) (steps_in o s a) ≡ Nowhere → Way o s a (done (heard_of o s a))
+  drifted : {i : ℕ} → AllPass (checks_of o s a) → first_outside (o.rooms a) (steps_in o s a) ≡ Some i → Way o s a (refusal 6 i s (o.buffer a))
+  answered : AllPass (checks_of o s a) → first_outside (o.rooms a) (steps_in o s a) ≡ None → Way o s a (done (heard_of o s a))
 
 -- ---- a chain of calls
 -- the k-th parameter's steps

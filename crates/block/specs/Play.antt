@@ -1,13 +1,8 @@
 -- A buffer's samples one after the other, for any oscillator: a sample is made from the state, its steps and what the buffer held. Assumes nothing.
 use Rattle.std.specs.Prelude.{List, [], ◌∷◌, Float}
 use Rattle.block.specs.declared.Counts.{Counts}
+use Rattle.block.specs.declared.sample.Sample.{Sample}
 use Rattle.block.specs.Counting.{plus}
-
--- what one sample gives
-pub record Sample (S : Type 0) : Type 0 where
-  pub state : S
-  pub sample : Float
-  pub counts : Counts
 
 -- what a run of samples gives
 pub record Heard (S : Type 0) : Type 0 where

@@ -2,56 +2,18 @@
 #![tactic(auto)]
 
 ghost use Rattle.std.specs.Prelude.{◌≡◌};
-ghost use Rattle.block.specs.Answers.{number_of, index_of};
 ghost use Rattle.block.specs.Counting.{no_counts, plus, modulo32, one_if, late as is_late_of};
 
-// 01, "Answer numbers".
-#[derive(Clone, Copy)]
-pub enum Answer {
-    Done,
-    LongBlock,
-    BadRegistration,
-    BadState,
-    BadParam,
-    TooHigh,
-    Drift(u32),
-    BadRecord,
-    BadInput,
-}
+mod refusal;
+mod sample;
+mod voice;
 
-// The number that a caller sees.
-pub fn number(answer: Answer) -> u32
-    ensures { result ≡ number_of answer }
-{
-    match answer {
-        Answer::Done => 0,
-        Answer::LongBlock => 1,
-        Answer::BadRegistration => 2,
-        Answer::BadState => 3,
-        Answer::BadParam => 4,
-        Answer::TooHigh => 5,
-        Answer::Drift(_) => 6,
-        Answer::BadRecord => 7,
-        Answer::BadInput => 8,
-    }
-}
-
-// The value beside it: only Drift has one, and every other answer 0.
-pub fn index(answer: Answer) -> u32
-    ensures { result ≡ index_of answer }
-{
-    match answer {
-        Answer::Done => 0,
-        Answer::LongBlock => 0,
-        Answer::BadRegistration => 0,
-        Answer::BadState => 0,
-        Answer::BadParam => 0,
-        Answer::TooHigh => 0,
-        Answer::Drift(i) => i,
-        Answer::BadRecord => 0,
-        Answer::BadInput => 0,
-    }
-}
+// What refuses a call, and the numbers of answers.
+pub use refusal::{Refusal, index, number};
+// What a sample leaves.
+pub use sample::Sample;
+// A call of any oscillator.
+pub use voice::{Voice, render};
 
 // The rises and falls are those that are not late. The late ones are kept apart, since a balance needs to know which they are.
 #[derive(Clone, Copy)]
@@ -83,12 +45,12 @@ pub fn sum(a: Counts, b: Counts) -> Counts
     ensures { result ≡ modulo32 (plus a b) }
 {
     Counts {
-        cycles: std::num::wrapping_add_u32(a.cycles, b.cycles),
-        rises: std::num::wrapping_add_u32(a.rises, b.rises),
-        falls: std::num::wrapping_add_u32(a.falls, b.falls),
-        cuts: std::num::wrapping_add_u32(a.cuts, b.cuts),
-        late_rises: std::num::wrapping_add_u32(a.late_rises, b.late_rises),
-        late_falls: std::num::wrapping_add_u32(a.late_falls, b.late_falls),
+        cycles: a.cycles.wrapping_add(b.cycles),
+        rises: a.rises.wrapping_add(b.rises),
+        falls: a.falls.wrapping_add(b.falls),
+        cuts: a.cuts.wrapping_add(b.cuts),
+        late_rises: a.late_rises.wrapping_add(b.late_rises),
+        late_falls: a.late_falls.wrapping_add(b.late_falls),
     }
 }
 
@@ -96,12 +58,12 @@ pub fn sum(a: Counts, b: Counts) -> Counts
 pub fn late(c: Counts) -> u32
     ensures { result ≡ is_late_of c }
 {
-    std::num::wrapping_add_u32(c.late_rises, c.late_falls)
+    c.late_rises.wrapping_add(c.late_falls)
 }
 
 // A bool counted.
 pub fn one_if(b: bool) -> u32
     ensures { result ≡ one_if b }
 {
-    if b { 1 } else { 0 }
+    u32::from(b)
 }

@@ -2,234 +2,156 @@
 // which sample rates the classic oscillator starts at.
 #![tactic(auto)]
 
-ghost use Rattle.std.specs.Prelude.{◌≤◌};
-
-use block::Answer;
+use block::{Counts, Refusal};
 use classic::OscillatorShape;
+
+type Text = testing::Line<1024>;
 
 // One line for each figure, in the request's order, and all of them written at once.
 fn main(rt: HostRuntime) {
-    let mut space = [0u8; 1024];
-    let text: &mut [u8] = &mut space;
-    let pairs = put_pairs(text);
-    let blocks = put_singles(text, pairs);
-    let strings = put_strings(text, blocks);
-    let drift = put_drift(text, strings);
-    let end = put_rates(text, drift);
-    streams::write(rt, b"boundaries", testing::front(text, end));
+    let mut text = Text::new();
+    put_pairs(&mut text);
+    put_singles(&mut text);
+    put_strings(&mut text);
+    put_drift(&mut text);
+    put_rates(&mut text);
+    streams::write(rt, b"boundaries", text.as_bytes());
 }
 
-// How long a block may be, of the oscillators with a master and a slave.
-fn put_pairs(text: &mut [u8]) -> usize {
-    let square = put_lengths(
-        text,
-        0,
-        b"super square",
-        super_square_of(4096),
-        super_square_of(4097),
-    );
-    put_lengths(
-        text,
-        square,
-        b"variable shape",
-        variable_shape_of(4096),
-        variable_shape_of(4097),
-    )
+// How long a block may be, of the oscillators with a master and a slave, at the highest pitch that each plays unclipped.
+fn put_pairs(text: &mut Text) {
+    put_lengths(text, b"super square", |out| {
+        let parameters = super_square::Parameters {
+            frequency: 0.25,
+            shape: 0.5,
+        };
+        super_square::render(&mut super_square::init(), parameters, out)
+    });
+    put_lengths(text, b"variable shape", |out| {
+        let parameters = variable_shape::Parameters {
+            master_frequency: 0.25,
+            frequency: 0.25,
+            pw: 0.5,
+            waveshape: 0.5,
+            phase_modulation: 0.0,
+            sync: true,
+            phase_output: true,
+        };
+        variable_shape::render(&mut variable_shape::init(), parameters, out)
+    });
 }
 
 // And of the others.
-fn put_singles(text: &mut [u8], at: usize) -> usize {
-    let saw = put_lengths(
-        text,
-        at,
-        b"variable saw",
-        variable_saw_of(4096),
-        variable_saw_of(4097),
-    );
-    let nes = put_lengths(
-        text,
-        saw,
-        b"NES triangle",
-        nes_triangle_of(4096),
-        nes_triangle_of(4097),
-    );
-    let string = put_lengths(
-        text,
-        nes,
-        b"string synth",
-        string_synth_of(4096, 7, 0.5),
-        string_synth_of(4097, 7, 0.5),
-    );
-    put_lengths(text, string, b"classic", classic_of(4096), classic_of(4097))
+fn put_singles(text: &mut Text) {
+    put_lengths(text, b"variable saw", |out| {
+        variable_saw::render(&mut variable_saw::init(), saw_at(0.25), out)
+    });
+    put_lengths(text, b"NES triangle", |out| {
+        let parameters = nes_triangle::Parameters {
+            frequency: 0.25,
+            num_bits: 5,
+        };
+        nes_triangle::render(&mut nes_triangle::init(), parameters, out)
+    });
+    put_lengths(text, b"string synth", |out| {
+        string_synth::render(&mut string_synth::init(), string_at(&[0.0; 7], 0.5), out)
+    });
+    put_lengths(text, b"classic", |out| {
+        let mut state = classic::new();
+        classic::init(&mut state, 48000.0)?;
+        let parameters = classic::Parameters {
+            frequency: 0.25,
+            pw: 0.5,
+            shape: OscillatorShape::ImpulseTrain,
+        };
+        classic::render(&mut state, parameters, out)
+    });
 }
 
-// The longest block, and one sample more.
-fn put_lengths(text: &mut [u8], at: usize, whose: &[u8], longest: u32, longer: u32) -> usize {
-    let one = put(text, at, whose, b", 4,096 samples: ", longest);
-    put(text, one, whose, b", 4,097 samples: ", longer)
+// The saw's parameters at a frequency.
+fn saw_at(frequency: f32) -> variable_saw::Parameters {
+    variable_saw::Parameters {
+        frequency,
+        pw: 0.5,
+        waveshape: 0.0,
+    }
+}
+
+// The string's, of a registration.
+fn string_at(registration: &[f32], frequency: f32) -> string_synth::Parameters<'_> {
+    string_synth::Parameters {
+        frequency,
+        registration,
+        gain: 1.0,
+    }
+}
+
+// The answer to the longest block, and to one with a sample more.
+fn put_lengths<F: Fn(&mut [f32]) -> Result<Counts, Refusal>>(
+    text: &mut Text,
+    whose: &[u8],
+    render: F,
+)
+    requires { F.IsAlwaysCallable render }
+{
+    put_answer(text, whose, b", 4,096 samples: ", render(&mut [0.0; 4096]));
+    put_answer(text, whose, b", 4,097 samples: ", render(&mut [0.0; 4097]));
 }
 
 // How long a registration is, and how high a string goes.
-fn put_strings(text: &mut [u8], at: usize) -> usize {
-    let whose = b"string synth";
-    let six = put(
-        text,
-        at,
-        whose,
-        b", registration of 6: ",
-        string_synth_of(64, 6, 0.5),
-    );
-    let eight = put(
-        text,
-        six,
-        whose,
-        b", registration of 8: ",
-        string_synth_of(64, 8, 0.5),
-    );
-    let highest = put(
-        text,
-        eight,
-        whose,
-        b", frequency 0.5: ",
-        string_synth_of(64, 7, 0.5),
-    );
-    let next_up = string_synth_of(64, 7, floats::from_bits(0x3f00_0001));
-    put(text, highest, whose, b", the next float up: ", next_up)
+fn put_strings(text: &mut Text) {
+    put_string(text, b", registration of 6: ", &[0.0; 6], 0.5);
+    put_string(text, b", registration of 8: ", &[0.0; 8], 0.5);
+    put_string(text, b", frequency 0.5: ", &[0.0; 7], 0.5);
+    let above = floats::from_bits(0x3f00_0001);
+    put_string(text, b", the next float up: ", &[0.0; 7], above);
 }
 
-// Where the saw drifts.
-fn put_drift(text: &mut [u8], at: usize) -> usize {
-    let drift = drifting_saw();
-    let number = put(
-        text,
-        at,
-        b"variable saw",
-        b", Drift: ",
-        block::number(drift),
-    );
+// The answer to a block of 64 samples.
+fn put_string(text: &mut Text, what: &[u8], registration: &[f32], frequency: f32) {
+    let parameters = string_at(registration, frequency);
+    let answer = string_synth::render(&mut string_synth::init(), parameters, &mut [0.0; 64]);
+    put_answer(text, b"string synth", what, answer);
+}
+
+// Where the saw drifts: 01's Drift figure, from 12290525/2^26 down to MIN_FREQUENCY over 4,096 samples.
+fn put_drift(text: &mut Text) {
+    let mut state = variable_saw::init();
+    state.frequency = floats::from_bits(0x3e3b_89dd);
+    let drift = variable_saw::render(&mut state, saw_at(0.000001), &mut [0.0; 4096]);
+    put_answer(text, b"variable saw", b", Drift: ", drift);
     put(
         text,
-        number,
         b"variable saw",
         b", index of Drift: ",
         block::index(drift),
-    )
+    );
 }
 
 // The lowest and the highest sample rate, and the floats beside them.
-fn put_rates(text: &mut [u8], at: usize) -> usize {
-    let whose = b"classic";
-    let lowest = put(
-        text,
-        at,
-        whose,
-        b", sample rate 8,000: ",
-        started_at(8000.0),
-    );
-    let next_down = started_at(floats::from_bits(0x45f9_ffff));
-    let below = put(text, lowest, whose, b", the next float down: ", next_down);
-    let highest = put(
-        text,
-        below,
-        whose,
-        b", sample rate 384,000: ",
-        started_at(384000.0),
-    );
-    let next_up = started_at(floats::from_bits(0x48bb_8001));
-    put(text, highest, whose, b", the next float up: ", next_up)
+fn put_rates(text: &mut Text) {
+    put_rate(text, b", sample rate 8,000: ", 8000.0);
+    let below = floats::from_bits(0x45f9_ffff);
+    put_rate(text, b", the next float down: ", below);
+    put_rate(text, b", sample rate 384,000: ", 384000.0);
+    let above = floats::from_bits(0x48bb_8001);
+    put_rate(text, b", the next float up: ", above);
 }
 
-// The answer's number to a block of n samples from the initial state, at the highest pitch that each plays unclipped.
-fn super_square_of(n: usize) -> u32
-    requires { n ≤ 4097 }
-{
-    let mut out = [0.0f32; 4097];
-    let r = super_square::render(super_square::init(), 0.25, 0.5, &mut out[0..n]);
-    let answer = r.answer;
-    block::number(answer)
+// The answer to a start.
+fn put_rate(text: &mut Text, what: &[u8], sample_rate: f32) {
+    let answer = classic::init(&mut classic::new(), sample_rate);
+    put_answer(text, b"classic", what, answer);
 }
 
-// The answer of a sound call on so many samples; likewise for the saw and the NES triangle.
-fn variable_shape_of(n: usize) -> u32
-    requires { n ≤ 4097 }
-{
-    let mut out = [0.0f32; 4097];
-    let state = variable_shape::init();
-    let r = variable_shape::render(state, 0.25, 0.25, 0.5, 0.5, 0.0, true, true, &mut out[0..n]);
-    let answer = r.answer;
-    block::number(answer)
+// A figure's name and its answer, as one line.
+fn put_answer<T: Copy>(text: &mut Text, whose: &[u8], what: &[u8], answer: Result<T, Refusal>) {
+    put(text, whose, what, block::number(answer));
 }
 
-// The saw's.
-fn variable_saw_of(n: usize) -> u32
-    requires { n ≤ 4097 }
-{
-    let mut out = [0.0f32; 4097];
-    let r = variable_saw::render(variable_saw::init(), 0.25, 0.5, 0.0, &mut out[0..n]);
-    let answer = r.answer;
-    block::number(answer)
-}
-
-// The NES triangle's.
-fn nes_triangle_of(n: usize) -> u32
-    requires { n ≤ 4097 }
-{
-    let mut out = [0.0f32; 4097];
-    let r = nes_triangle::render(nes_triangle::init(), 0.25, 5, &mut out[0..n]);
-    let answer = r.answer;
-    block::number(answer)
-}
-
-// The string's, whose registration's length and frequency have figures too.
-fn string_synth_of(n: usize, places: usize, frequency: f32) -> u32
-    requires { (n ≤ 4097) × (places ≤ 8) }
-{
-    let mut out = [0.0f32; 4097];
-    let registration = [0.0f32; 8];
-    let state = string_synth::init();
-    let r = string_synth::render(
-        state,
-        frequency,
-        &registration[0..places],
-        1.0,
-        &mut out[0..n],
-    );
-    let answer = r.answer;
-    block::number(answer)
-}
-
-// The classic's, of its first shape.
-fn classic_of(n: usize) -> u32
-    requires { n ≤ 4097 }
-{
-    let mut out = [0.0f32; 4097];
-    let started = classic::init(classic::new(), 48000.0);
-    let state = started.state;
-    let shape = OscillatorShape::ImpulseTrain;
-    let r = classic::render(state, 0.25, 0.5, shape, &mut out[0..n]);
-    let answer = r.answer;
-    block::number(answer)
-}
-
-// And that to a start at a sample rate.
-fn started_at(sample_rate: f32) -> u32 {
-    let started = classic::init(classic::new(), sample_rate);
-    let answer = started.answer;
-    block::number(answer)
-}
-
-// 01's Drift figure: from 12290525/2^26 down to MIN_FREQUENCY over 4,096 samples.
-fn drifting_saw() -> Answer {
-    let mut out = [0.0f32; 4096];
-    let mut state = variable_saw::init();
-    state.frequency = floats::from_bits(0x3e3b_89dd);
-    let r = variable_saw::render(state, 0.000001, 0.5, 0.0, &mut out);
-    r.answer
-}
-
-// A figure's name and its number, as one line.
-fn put(text: &mut [u8], at: usize, whose: &[u8], what: &[u8], number: u32) -> usize {
-    let named = testing::put(text, at, whose);
-    let said = testing::put(text, named, what);
-    testing::put_number(text, said, number, b'\n')
+// Likewise with its number.
+fn put(text: &mut Text, whose: &[u8], what: &[u8], number: u32) {
+    text.put(whose);
+    text.put(what);
+    text.put_number(number, b'\n');
 }

@@ -1,5 +1,5 @@
-// The fields of a call record.
-ghost use Rattle.std.specs.Prelude.{◌≤◌, length};
+// The fields of a call record. Its bytes are a recorded input, whose layout does not change: that is why the fields are read by their places.
+ghost use Rattle.std.specs.Prelude.{◌≤◌};
 
 // A float by its bits, a NaN's too.
 pub(crate) fn float_at(record: &[u8; 128], at: usize) -> f32 {
@@ -8,53 +8,41 @@ pub(crate) fn float_at(record: &[u8; 128], at: usize) -> f32 {
 
 // Two bytes: the upper half of the record's first word.
 pub(crate) fn block_length(record: &[u8; 128]) -> usize {
-    (testing::word_at(record, 0) / 0x1_0000) as usize
+    usize::from(u16::from_le_bytes([record[2], record[3]]))
 }
 
 // Flags: 1 sync, 2 phase output. The other bits mean nothing.
 pub(crate) fn sync(record: &[u8; 128]) -> bool {
-    record[1] % 2 == 1
+    record[1] & 1 != 0
 }
 
 // The second bit of the flags.
 pub(crate) fn phase_output(record: &[u8; 128]) -> bool {
-    record[1] / 2 % 2 == 1
+    record[1] & 2 != 0
 }
 
 // The classic's shape stands in place of flags.
 pub(crate) fn shape(record: &[u8; 128]) -> u32 {
-    testing::word_at(record, 0) / 0x100 % 0x100
+    u32::from(record[1])
 }
 
 // The seven registration entries, and an eighth that is 0.
 pub(crate) fn registration(record: &[u8; 128]) -> [f32; 8] {
-    [
-        float_at(record, 28),
-        float_at(record, 32),
-        float_at(record, 36),
-        float_at(record, 40),
-        float_at(record, 44),
-        float_at(record, 48),
-        float_at(record, 52),
-        0.0,
-    ]
+    let mut entries = [0.0; 8];
+    for (entry, bits) in entries.iter_mut().zip(testing::words_at::<7>(record, 28)) {
+        *entry = floats::from_bits(bits);
+    }
+    entries
 }
 
-// How many of them are handed over: 0 to 8.
+// How many of them are handed over: 0 to 8. The count stands beside the array, since a function cannot lend a slice of an array that it makes.
 pub(crate) fn entries(record: &[u8; 128]) -> usize
     ensures { result ≤ 8 }
 {
-    let count = testing::word_at(record, 56);
-    if count > 8 { 8 } else { count as usize }
+    testing::word_at(record, 56).min(8) as usize
 }
 
-// The state's words, as many as there is room for.
-pub(crate) fn read_state(record: &[u8; 128], words: &mut [u32])
-    requires { length words.old ≤ 10 }
-{
-    let mut i = 0;
-    while i < words.len() {
-        words[i] = testing::word_at(record, 64 + 4 * i);
-        i += 1;
-    }
+// The state's words, as many as the kind has.
+pub(crate) fn state<const N: usize>(record: &[u8; 128]) -> [u32; N] {
+    testing::words_at(record, 64)
 }

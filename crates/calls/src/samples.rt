@@ -2,11 +2,8 @@
 
 // Every sample holds these bits; or, where they are 0, sample i holds (i mod 8 + 1) / 4.
 pub(crate) fn fill(out: &mut [f32], bits: u32) {
-    let levels = levels_of(bits);
-    let mut i = 0;
-    while i < out.len() {
-        out[i] = levels[i % 8];
-        i += 1;
+    for (sample, level) in out.iter_mut().zip(levels_of(bits).iter().cycle()) {
+        *sample = *level;
     }
 }
 

@@ -10,16 +10,17 @@ use Rattle.floats.proofs.At.{At, Reads, size_of}
 use Rattle.floats.proofs.Order.{le_trans, numbers}
 use Rattle.floats.proofs.Ranges.{at_le, passes_le, passed_le}
 use Rattle.floats.proofs.Ticks.{tick, tick_pos, zero_at, one_at, max_frequency_at}
+use Rattle.parameter_interpolator.specs.Interpolator.{new_interpolator}
 use Rattle.ranges.specs.Ranges.{within, parameter_frequency_in, unit_in}
 use Rattle.ranges.proofs.AllOf.{each_of}
 use Rattle.ranges.proofs.TargetRanges.{least_target, least_target_at, least_min, least_max, min_at, clamp_in, width_clamp_in, width_clamp_fits}
 use Rattle.rooms.specs.declared.Room.TheVariants.{Frequency, PulseWidth}
-use Rattle.rooms.proofs.Guard.{Course, rooms_of, AllPresumed}
+use Rattle.rooms.proofs.Guard.{Course, rooms_of, starts_of, AllPresumed}
 use Rattle.classic.specs.declared.State.{State}
 use Rattle.classic.specs.declared.OscillatorShape.{OscillatorShape}
 use Rattle.classic.specs.Shapes.{steps_width}
 use Rattle.classic.specs.Targets.{frequency_target, width_target}
-use Rattle.classic.specs.Block.{parameters_in, rooms}
+use Rattle.classic.specs.Block.{parameters_in, interpolators, rooms}
 use Rattle.classic.specs.Private.{Valid, courses}
 
 -- ---- the frequency's target
@@ -73,6 +74,15 @@ module _ (s : State) (frequency pw : Float) where
   course_rooms shape = go (steps_width shape)
     where
       go : (stepped : Bool) → Frequency ∷ cond stepped (PulseWidth ∷ []) [] ≡ rooms_of (moving ∷ cond stepped (opening ∷ []) [])
+      go true = refl
+      go false = refl
+
+  -- and their interpolators are the definition's
+  pub course_starts : (n : ℕ) (shape : OscillatorShape) → starts_of n (courses s frequency pw shape) ≡ interpolators s frequency pw shape n
+  course_starts n shape = go (steps_width shape)
+    where
+      go : (stepped : Bool) → starts_of n (moving ∷ cond stepped (opening ∷ []) [])
+          ≡ new_interpolator s.frequency (frequency_target frequency) n ∷ cond stepped (new_interpolator s.pw (width_target (frequency_target frequency) pw) n ∷ []) []
       go true = refl
       go false = refl
 

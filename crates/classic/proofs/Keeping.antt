@@ -16,7 +16,7 @@ use Rattle.block.specs.Fit.{Inside}
 use Rattle.block.specs.Limits.{Balanced}
 use Rattle.block.proofs.Plays.{Keeps}
 use Rattle.classic.specs.declared.State.{State}
-use Rattle.classic.specs.declared.sample.Sampled.{Sampled}
+use Rattle.block.specs.declared.sample.Sample.{Sample}
 use Rattle.classic.specs.declared.OscillatorShape.{OscillatorShape}
 use Rattle.classic.specs.Shapes.{steps_width, width_of, kept_width}
 use Rattle.classic.specs.Sample.{finish, sample_of, sample_at}
@@ -31,7 +31,7 @@ pub record Ready (shape : OscillatorShape) (s : State) (frequency step : Float) 
   pub width : steps_width shape ≡ true → unit_in step ≡ true
 
 -- what one sample does to a phase of a units with a step of b, and to all else
-pub record Law (shape : OscillatorShape) (s : State) (frequency step : Float) (a b : ℕ) (t : Sampled) : Type 0 where
+pub record Law (shape : OscillatorShape) (s : State) (frequency step : Float) (a b : ℕ) (t : Sample State) : Type 0 where
   pub phase : Step t.state.phase t.counts.cycles a b cycle tick cycle
   pub frequency_is : t.state.frequency ≡ frequency
   pub pw_is : t.state.pw ≡ kept_width shape step s.pw

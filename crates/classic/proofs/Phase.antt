@@ -14,7 +14,6 @@ use Rattle.block.proofs.Blocks.{Laws}
 use Rattle.block.proofs.Oscillators.{answered_valid}
 use Rattle.classic.specs.declared.State.{State}
 use Rattle.classic.specs.declared.OscillatorShape.{OscillatorShape}
-use Rattle.classic.specs.Shapes.{steps_width}
 use Rattle.classic.specs.State.{new_state, initial_state}
 use Rattle.classic.specs.Sample.{sample_at}
 use Rattle.classic.specs.Block.{state_in, rooms, Arguments, classic}
@@ -40,7 +39,7 @@ module _ (shape : OscillatorShape) (s : State) (steps : List Float) (x : Float) 
 pub laws : Laws classic (λ a. Valid) cycle tick
 laws = record {
   ordered = λ s a. (lit< tt, (lit< tt, (lit< tt, tt)));
-  paired = λ s a. paired s a (steps_width a.shape);
+  paired = paired;
   passed = λ s a f p. valid_of s f p.0;
   fits = λ s a v. (v.phase.at.fit, tt);
   keeps = λ a. keeps a.shape;

@@ -2,12 +2,15 @@
 use Rattle.std.proofs.Common.{◌≡◌, ℕ, ◌<◌, ◌≤◌, Bool, true, false, cond, List, [], ◌∷◌, length, get_or, refl, arith, lit<}
 use lib.Ieee.{Float}
 use Rattle.floats.specs.F32.{zero32}
-use Rattle.rooms.specs.declared.Room.TheVariants.{Frequency, PulseWidth}
+use Rattle.rooms.specs.declared.Room.{Room}
+use Rattle.rooms.specs.declared.Room.TheVariants.{Unused, Frequency, PulseWidth}
+use Rattle.block.specs.Voices.{Padded}
 use Rattle.classic.specs.declared.State.{State}
 use Rattle.classic.specs.declared.OscillatorShape.{OscillatorShape}
 use Rattle.classic.specs.Shapes.{steps_width}
 use Rattle.classic.specs.Sample.{finish, sample_of}
 use Rattle.classic.specs.Block.{rooms}
+use Rattle.classic.specs.Private.{width_room}
 
 -- five places are enough
 pub enough : (shape : OscillatorShape) {n : ℕ} → n ≡ 5 → length (rooms shape) ≤ n
@@ -16,6 +19,14 @@ enough shape {n} e = go (steps_width shape)
     go : (stepped : Bool) → length (Frequency ∷ cond stepped (PulseWidth ∷ []) []) ≤ n
     go true = omega (arith, e)
     go false = omega (arith, e)
+
+-- which are the rooms, and behind them those that are not used
+pub padded : (shape : OscillatorShape) {room : Room} → room ≡ width_room shape → Padded (rooms shape) (Frequency ∷ room ∷ Unused ∷ Unused ∷ Unused ∷ [])
+padded shape e = rw e (go (steps_width shape))
+  where
+    go : (stepped : Bool) → Padded (Frequency ∷ cond stepped (PulseWidth ∷ []) []) (Frequency ∷ cond stepped PulseWidth Unused ∷ Unused ∷ Unused ∷ Unused ∷ [])
+    go true = (3, refl, omega arith)
+    go false = (4, refl, omega arith)
 
 -- the steps that the code takes, a value for each place, make the definition's sample
 module _ (shape : OscillatorShape) (s : State) (steps : List Float) (value : ℕ → Float) (place : (k : ℕ) → k < length (rooms shape) → value k ≡ get_or steps k zero32) where

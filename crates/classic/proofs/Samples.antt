@@ -5,11 +5,10 @@ use lib.Ieee.{Float, le}
 use Rattle.floats.specs.F32.{◌⊕◌, one32}
 use Rattle.floats.proofs.Bools.{and_both}
 use Rattle.block.specs.Counting.{no_counts}
-use Rattle.block.specs.Play.{Sample}
+use Rattle.block.specs.declared.sample.Sample.{Sample}
 use Rattle.edges.specs.declared.Edge.{Edge}
 use Rattle.edges.specs.Counted.{start_of}
 use Rattle.classic.specs.declared.State.{State}
-use Rattle.classic.specs.declared.sample.Sampled.{Sampled}
 use Rattle.classic.specs.declared.OscillatorShape.{OscillatorShape}
 use Rattle.classic.specs.declared.OscillatorShape.TheVariants.{ImpulseTrain, Saw, Triangle, Slope, Square, SquareBright, SquareDark, SquareTriangle}
 use Rattle.classic.specs.Shapes.{width_of}
@@ -37,6 +36,6 @@ module _ (shape : OscillatorShape) (s : State) (frequency step : Float) (q : qui
       rw (edges_quiet shape frequency (width_of shape step) (start_of (s.phase ⊕ frequency) s.high s.next_sample) (not-true _ n.0) wraps, wraps)
 
   -- nothing is counted
-  pub quiet_made : {t : Sampled} → t ≡ sample_of shape s frequency step → ◌≡◌ {A = Sample State} (record { state = t.state; sample = t.sample; counts = no_counts }) (record { state = t.state; sample = t.sample; counts = t.counts })
+  pub quiet_made : {t : Sample State} → t ≡ sample_of shape s frequency step → ◌≡◌ {A = Sample State} (record { state = t.state; sample = t.sample; counts = no_counts }) (record { state = t.state; sample = t.sample; counts = t.counts })
   unfolding finish
   quiet_made e = rw (e, sample_quiet)

@@ -1,15 +1,16 @@
 -- The classic oscillator as an oscillator of `block`: oscillator.rs, lines 66 to 232, with 01's checks before it. Assumes nothing.
 use Rattle.block.specs.Checks.{◌unless◌}
-use Rattle.std.specs.Prelude.{ℕ, Bool, cond, List, [], ◌∷◌, length, Float}
+use Rattle.std.specs.Prelude.{ℕ, Bool, cond, List, [], ◌∷◌, length, Float, Result}
 use Rattle.parameter_interpolator.specs.declared.ParameterInterpolator.{ParameterInterpolator}
 use Rattle.parameter_interpolator.specs.Interpolator.{new_interpolator}
 use Rattle.rooms.specs.declared.Room.{Room}
 use Rattle.rooms.specs.declared.Room.TheVariants.{Frequency, PulseWidth}
 use Rattle.ranges.specs.Ranges.{phase_in, frequency_in, parameter_frequency_in, unit_in, all_of}
+use Rattle.block.specs.declared.Counts.{Counts}
+use Rattle.block.specs.declared.refusal.Refusal.{Refusal}
 use Rattle.block.specs.Calls.{Call, gave}
 use Rattle.block.specs.Oscillator.{Oscillator, call_of}
 use Rattle.classic.specs.declared.State.{State}
-use Rattle.classic.specs.declared.Rendered.{Rendered}
 use Rattle.classic.specs.declared.OscillatorShape.{OscillatorShape}
 use Rattle.classic.specs.Shapes.{steps_width}
 use Rattle.classic.specs.Targets.{frequency_target, width_target}
@@ -57,6 +58,6 @@ classic = record {
 abbrev pub render_of : State → Float → Float → OscillatorShape → List Float → Call State
 render_of s frequency pw shape xs = call_of classic s (record { frequency = frequency; pw = pw; shape = shape; buffer = xs })
 
--- what a call returned and left in the buffer, in 01's numbers
-abbrev pub as_call : Rendered → List Float → Call State
-as_call r xs = gave r.answer r.state r.counts xs
+-- what a call returned, and left in the state and in the buffer, in 01's numbers
+abbrev pub as_call : Result Counts Refusal → State → List Float → Call State
+as_call = gave

@@ -27,7 +27,6 @@ turned phase high thisSample next_sample e = record {
   this_sample = thisSample;
   next_sample = next_sample;
   reset = e.reset;
-  reset_time = e.reset_time;
   crossings = changed e.high high e.crossings;
 }
 
@@ -43,7 +42,6 @@ saw_wrap frequency e =
       this_sample = e.this_sample ⊖ this_blep_sample t;
       next_sample = e.next_sample ⊖ next_blep_sample t;
       reset = e.reset;
-      reset_time = e.reset_time;
       crossings = e.crossings;
     }
 

@@ -2,22 +2,21 @@
 use Rattle.std.specs.Prelude.{◌≡◌, Bool, true, false, cond, not, ◌&&◌, List, [], ◌∷◌, Float}
 use Rattle.std.specs.Bool.{xor}
 use Rattle.std.specs.Float.Ieee.{lt, le}
-use Rattle.floats.specs.F32.{one32}
+use Rattle.floats.specs.F32.{◌⊖◌, ◌⊗◌, half32, one32}
 use Rattle.floats.proofs.Ticks.{cycle}
 use Rattle.floats.proofs.Ranges.{Under}
 use Rattle.parameter_interpolator.specs.declared.ParameterInterpolator.{ParameterInterpolator}
-use Rattle.block.specs.declared.Answer.{Answer}
-use Rattle.block.specs.Counting.{no_counts}
 use Rattle.ranges.specs.Ranges.{frequency_in, unit_in}
 use Rattle.rooms.specs.declared.Room.{Room}
 use Rattle.rooms.specs.declared.Room.TheVariants.{Unused, Frequency, PulseWidth}
 use Rattle.rooms.specs.Steps.{still_one}
 use Rattle.rooms.proofs.Guard.{Course}
 use Rattle.classic.specs.declared.State.{State}
-use Rattle.classic.specs.declared.Rendered.{Rendered}
 use Rattle.classic.specs.declared.OscillatorShape.{OscillatorShape}
 use Rattle.classic.specs.declared.OscillatorShape.TheVariants.{ImpulseTrain, Saw, Triangle, Slope, Square, SquareBright, SquareDark, SquareTriangle}
+use Rattle.classic.specs.declared.output.Output.{Output}
 use Rattle.classic.specs.Shapes.{steps_width}
+use Rattle.classic.specs.Output.{integrated}
 use Rattle.classic.specs.Targets.{frequency_target, width_target}
 
 -- the phase is a binary32 value of at least 0 and below 1, and the others pass their tests
@@ -40,9 +39,6 @@ others shape = cond (steps_width shape) (still_one ∷ still_one ∷ still_one �
 abbrev pub width_room : OscillatorShape → Room
 width_room shape = cond (steps_width shape) PulseWidth Unused
 
-abbrev pub refused : Answer → State → Rendered
-refused answer s = record { answer = answer; state = s; counts = no_counts }
-
 -- a sample in which `high` turns at the width, and one in which nothing happens
 abbrev pub turns_of : OscillatorShape → Bool → Float → Float → Bool
 turns_of ImpulseTrain high phase pw = false
@@ -56,3 +52,9 @@ turns_of SquareTriangle high phase pw = xor high (le pw phase)
 
 abbrev pub quiet_of : OscillatorShape → Bool → Float → Float → Bool
 quiet_of shape high phase pw = not (turns_of shape high phase pw) && not (le one32 phase)
+
+-- the low-pass of the dark square and of the square triangle, by its coefficient and gain
+abbrev pub low_passed : State → Float → Float → Float → Output
+low_passed s coefficient gain thisSample =
+    let lp = integrated s.lp_state coefficient (gain ⊗ (thisSample ⊖ half32)) in
+    record { sample = lp; lp_state = lp; hp_state = s.hp_state }

@@ -3,11 +3,10 @@ use Rattle.std.specs.Prelude.{ℕ, Bool, cond, List, slice_index_or, Float}
 use Rattle.std.specs.Float.Ieee.{lt, le}
 use Rattle.floats.specs.F32.{◌⊕◌, ◌⊖◌, ◌⊗◌, ◌⊘◌, zero32, one32, two32}
 use Rattle.block.specs.Counting.{one_if}
-use Rattle.block.specs.Play.{Sample}
+use Rattle.block.specs.declared.sample.Sample.{Sample}
 use Rattle.edges.specs.declared.Edge.{Edge}
 use Rattle.edges.specs.Counted.{start_of, counts_of}
 use Rattle.classic.specs.declared.State.{State}
-use Rattle.classic.specs.declared.sample.Sampled.{Sampled}
 use Rattle.classic.specs.declared.OscillatorShape.{OscillatorShape}
 use Rattle.classic.specs.declared.OscillatorShape.TheVariants.{ImpulseTrain, Saw, Triangle, Slope, Square, SquareBright, SquareDark, SquareTriangle}
 use Rattle.classic.specs.Shapes.{width_of, kept_width}
@@ -34,7 +33,7 @@ naive SquareDark pw phase high = square_at pw phase
 naive SquareTriangle pw phase high = square_at pw phase
 
 -- The end of a sample, and line 232 for what the next one starts with. The source stores frequency and width as it drops their interpolators, and what it stores is the last step.
-unfoldable pub finish : OscillatorShape → State → Float → Float → ℕ → Edge → Sampled
+unfoldable pub finish : OscillatorShape → State → Float → Float → ℕ → Edge → Sample State
 finish shape s frequency step cycles e =
     let o = output_of shape s frequency e.this_sample in
     record {
@@ -54,7 +53,7 @@ finish shape s frequency step cycles e =
     }
 
 -- lines 91, 92 and 111: this sample starts with what the last one left for it, and the phase moves on; a cycle is counted where it comes to 1. Then by shape.
-unfoldable pub sample_of : OscillatorShape → State → Float → Float → Sampled
+unfoldable pub sample_of : OscillatorShape → State → Float → Float → Sample State
 sample_of shape s frequency step =
     let start = start_of (s.phase ⊕ frequency) s.high s.next_sample in
     finish shape s frequency step (one_if (le one32 start.phase)) (edges_of shape frequency (width_of shape step) start)

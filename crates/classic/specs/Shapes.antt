@@ -1,17 +1,15 @@
 -- The eight shapes of oscillator.rs, lines 17 to 26, by number, and which of them step the width. Assumes nothing.
-use Rattle.std.specs.Prelude.{ℕ, Bool, true, false, cond, List, [], ◌∷◌, slice_index_or, Float}
+use Rattle.std.specs.Prelude.{ℕ, Bool, true, false, cond, Option, None, Some, List, [], ◌∷◌, slice_index_or, Float}
 use Rattle.floats.specs.F32.{half32}
 use Rattle.classic.specs.declared.OscillatorShape.{OscillatorShape}
 use Rattle.classic.specs.declared.OscillatorShape.TheVariants.{ImpulseTrain, Saw, Triangle, Slope, Square, SquareBright, SquareDark, SquareTriangle}
-use Rattle.classic.specs.declared.shapes.Named.{Named}
-use Rattle.classic.specs.declared.shapes.Named.TheVariants.{NoShape, Shape}
 
 -- 02 (i): "the shape 0 to 7 in the order of `OscillatorShape`"
-abbrev pub in_order : List Named
-in_order = Shape ImpulseTrain ∷ Shape Saw ∷ Shape Triangle ∷ Shape Slope ∷ Shape Square ∷ Shape SquareBright ∷ Shape SquareDark ∷ Shape SquareTriangle ∷ []
+abbrev pub in_order : List (Option OscillatorShape)
+in_order = Some ImpulseTrain ∷ Some Saw ∷ Some Triangle ∷ Some Slope ∷ Some Square ∷ Some SquareBright ∷ Some SquareDark ∷ Some SquareTriangle ∷ []
 
-abbrev pub numbered : ℕ → Named
-numbered k = slice_index_or in_order k NoShape
+abbrev pub numbered : ℕ → Option OscillatorShape
+numbered k = slice_index_or in_order k None
 
 -- 02 (i): "`Triangle` and `SquareTriangle` don't step the pulse width": lines 104 to 107
 abbrev pub steps_width : OscillatorShape → Bool

@@ -1,5 +1,6 @@
-// What a sample crosses, in the source's order: oscillator.rs, lines 115 to 125, 144 to 168 and 180 to 202. `high` may change at the width, by a crossing or by the width's own
-// move, and at a wrap. Each change is counted, whichever line makes it.
+// What a sample crosses, in the source's order: oscillator.rs, lines 115 to 125, 144 to 168 and 180 to 202. `high` may change at the width, by a crossing or
+// by the width's own move, and at a wrap. Each change is counted, whichever line makes it. What goes from line to line is the Edge; the slopes, the frequency
+// and the width beside it are the source's own variables, of which each function takes those of its lines.
 ghost use Rattle.std.specs.Prelude.{◌≡◌};
 ghost use Rattle.classic.specs.Edges.{turned, saw_wrap, saw_edges, triangle_cross, triangle_at_width, triangle_wrap, triangle_edges, square_cross, square_at_width, square_wrap, square_edges, edges_of};
 
@@ -15,14 +16,18 @@ fn turn(e: Edge, phase: f32, high: bool, this_sample: f32, next_sample: f32) -> 
         high,
         this_sample,
         next_sample,
-        reset: e.reset,
-        reset_time: e.reset_time,
         crossings: Crossings {
-            rises: std::num::wrapping_add_u32(e.crossings.rises, block::one_if(!e.high & high)),
-            falls: std::num::wrapping_add_u32(e.crossings.falls, block::one_if(e.high & !high)),
-            late_rises: e.crossings.late_rises,
-            late_falls: e.crossings.late_falls,
+            rises: e
+                .crossings
+                .rises
+                .wrapping_add(block::one_if(!e.high & high)),
+            falls: e
+                .crossings
+                .falls
+                .wrapping_add(block::one_if(e.high & !high)),
+            ..e.crossings
         },
+        ..e
     }
 }
 
@@ -32,11 +37,12 @@ fn saw_wrap(e: Edge, frequency: f32) -> Edge
 {
     let phase = e.phase - 1.0;
     let t = phase / frequency;
-    let mut r = e;
-    r.phase = phase;
-    r.this_sample = e.this_sample - polyblep::this_blep_sample(t);
-    r.next_sample = e.next_sample - polyblep::next_blep_sample(t);
-    r
+    Edge {
+        phase,
+        this_sample: e.this_sample - polyblep::this_blep_sample(t),
+        next_sample: e.next_sample - polyblep::next_blep_sample(t),
+        ..e
+    }
 }
 
 // Line 115.
@@ -146,13 +152,9 @@ pub(crate) fn edges_of(e: Edge, shape: OscillatorShape, frequency: f32, pw: f32)
     ensures { result ≡ edges_of shape frequency pw e }
 {
     match shape {
-        OscillatorShape::ImpulseTrain => saw_edges(e, frequency),
-        OscillatorShape::Saw => saw_edges(e, frequency),
+        OscillatorShape::ImpulseTrain | OscillatorShape::Saw => saw_edges(e, frequency),
         OscillatorShape::Triangle => triangle_edges(e, 2.0 + 2.0, frequency, pw),
         OscillatorShape::Slope => { triangle_edges(e, 1.0 / pw + 1.0 / (1.0 - pw), frequency, pw) }
-        OscillatorShape::Square => square_edges(e, frequency, pw),
-        OscillatorShape::SquareBright => square_edges(e, frequency, pw),
-        OscillatorShape::SquareDark => square_edges(e, frequency, pw),
-        OscillatorShape::SquareTriangle => square_edges(e, frequency, pw),
+        _ => square_edges(e, frequency, pw),
     }
 }

@@ -1,6 +1,7 @@
 // What a sample puts out, and what the filters carry on, in the source's order: oscillator.rs, lines 128 to 135, 174 and 205 to 228.
 ghost use Rattle.std.specs.Prelude.{◌≡◌};
-ghost use Rattle.classic.specs.Output.{plain, impulse_train, integrated, square_bright, square_dark, square_triangle, output_of};
+ghost use Rattle.classic.specs.Output.{plain, impulse_train, integrated, square_bright, output_of};
+ghost use Rattle.classic.specs.Private.{low_passed};
 
 use crate::{OscillatorShape, State};
 
@@ -55,11 +56,11 @@ fn square_bright(s: State, frequency: f32, this_sample: f32) -> Output
     }
 }
 
-// Lines 213 to 216: a low-pass.
-fn square_dark(s: State, frequency: f32, this_sample: f32) -> Output
-    ensures { result ≡ square_dark s frequency this_sample }
+// Lines 213 to 216, and 207 to 210 with another coefficient and gain: a low-pass.
+fn low_pass(s: State, coefficient: f32, gain: f32, this_sample: f32) -> Output
+    ensures { result ≡ low_passed s coefficient gain this_sample }
 {
-    let lp_state = integrate(s.lp_state, frequency * 2.0, 4.0 * (this_sample - 0.5));
+    let lp_state = integrate(s.lp_state, coefficient, gain * (this_sample - 0.5));
     Output {
         sample: lp_state,
         lp_state,
@@ -67,30 +68,15 @@ fn square_dark(s: State, frequency: f32, this_sample: f32) -> Output
     }
 }
 
-// Lines 207 to 210: a lower low-pass, which makes a triangle of the square.
-fn square_triangle(s: State, frequency: f32, this_sample: f32) -> Output
-    ensures { result ≡ square_triangle s frequency this_sample }
-{
-    let lp_state = integrate(s.lp_state, frequency * 0.0625, 128.0 * (this_sample - 0.5));
-    Output {
-        sample: lp_state,
-        lp_state,
-        hp_state: s.hp_state,
-    }
-}
-
-// By shape.
+// By shape. The triangle's low-pass is the lower one, which makes a triangle of the square.
 pub(crate) fn put_out(s: State, shape: OscillatorShape, frequency: f32, this_sample: f32) -> Output
     ensures { result ≡ output_of shape s frequency this_sample }
 {
     match shape {
         OscillatorShape::ImpulseTrain => impulse_train(s, this_sample),
-        OscillatorShape::Saw => plain_output(s, this_sample),
-        OscillatorShape::Triangle => plain_output(s, this_sample),
-        OscillatorShape::Slope => plain_output(s, this_sample),
-        OscillatorShape::Square => plain_output(s, this_sample),
         OscillatorShape::SquareBright => square_bright(s, frequency, this_sample),
-        OscillatorShape::SquareDark => square_dark(s, frequency, this_sample),
-        OscillatorShape::SquareTriangle => square_triangle(s, frequency, this_sample),
+        OscillatorShape::SquareDark => low_pass(s, frequency * 2.0, 4.0, this_sample),
+        OscillatorShape::SquareTriangle => low_pass(s, frequency * 0.0625, 128.0, this_sample),
+        _ => plain_output(s, this_sample),
     }
 }

@@ -3,17 +3,9 @@ ghost use Rattle.std.specs.Prelude.{◌≡◌};
 ghost use Rattle.floats.specs.F32.{◌⊖◌, ◌⊘◌, one32};
 ghost use Rattle.classic.specs.Sample.{triangle_at, square_at, naive, finish as finished, sample_of};
 
-use crate::output::Output;
 use crate::{OscillatorShape, State, edges_of, output, shapes};
-use block::Counts;
+use block::Sample;
 use edges::Edge;
-
-#[derive(Clone, Copy)]
-pub struct Sampled {
-    pub sample: f32,
-    pub state: State,
-    pub counts: Counts,
-}
 
 // Lines 169 to 173: up while `high`, and down again to 0 at the end of the cycle.
 fn triangle_at(phase: f32, high: bool, slope_up: f32, slope_down: f32, pw: f32) -> f32
@@ -26,7 +18,7 @@ fn triangle_at(phase: f32, high: bool, slope_up: f32, slope_down: f32, pw: f32) 
     }
 }
 
-// The same with the slopes of lines 141 and 142: the one is worked out that the phase is on.
+// The same with the slopes of lines 141 and 142: the one is worked out that the phase is on. Through `triangle_at` both would be, at a division each.
 fn slope_at(phase: f32, high: bool, pw: f32) -> f32
     ensures { result ≡ triangle_at (one32 ⊘ pw) (one32 ⊘ (one32 ⊖ pw)) pw phase high }
 {
@@ -37,7 +29,7 @@ fn slope_at(phase: f32, high: bool, pw: f32) -> f32
     }
 }
 
-// Line 203.
+// Line 203. Other oscillators have the same line of their own source, and a shared function would be no shorter.
 fn square_at(phase: f32, pw: f32) -> f32
     ensures { result ≡ square_at pw phase }
 {
@@ -49,14 +41,10 @@ pub(crate) fn naive_sample(phase: f32, high: bool, shape: OscillatorShape, pw: f
     ensures { result ≡ naive shape pw phase high }
 {
     match shape {
-        OscillatorShape::ImpulseTrain => phase,
-        OscillatorShape::Saw => phase,
+        OscillatorShape::ImpulseTrain | OscillatorShape::Saw => phase,
         OscillatorShape::Triangle => triangle_at(phase, high, 2.0, 2.0, pw),
         OscillatorShape::Slope => slope_at(phase, high, pw),
-        OscillatorShape::Square => square_at(phase, pw),
-        OscillatorShape::SquareBright => square_at(phase, pw),
-        OscillatorShape::SquareDark => square_at(phase, pw),
-        OscillatorShape::SquareTriangle => square_at(phase, pw),
+        _ => square_at(phase, pw),
     }
 }
 
@@ -68,13 +56,13 @@ fn finish(
     shape: OscillatorShape,
     cycles: u32,
     e: Edge,
-) -> Sampled
+) -> Sample<State>
     ensures { result ≡ finished shape s frequency step cycles e }
 {
     let pw = shapes::width_of(shape, step);
     let next_sample = e.next_sample + naive_sample(e.phase, e.high, shape, pw);
     let o = output::put_out(s, shape, frequency, e.this_sample);
-    Sampled {
+    Sample {
         sample: o.sample,
         state: State {
             phase: e.phase,
@@ -84,15 +72,14 @@ fn finish(
             high: e.high,
             frequency,
             pw: shapes::kept_width(shape, step, s.pw),
-            impulse_train_lp_coeff: s.impulse_train_lp_coeff,
-            impulse_train_gain: s.impulse_train_gain,
+            ..s
         },
         counts: edges::counts(cycles, e, 0),
     }
 }
 
 // Lines 91, 92 and 111, and then by shape. Cycles are the wraps, and there is no sync, so no cuts.
-pub(crate) fn sample(s: State, frequency: f32, step: f32, shape: OscillatorShape) -> Sampled
+pub(crate) fn sample(s: State, frequency: f32, step: f32, shape: OscillatorShape) -> Sample<State>
     ensures { result ≡ sample_of shape s frequency step }
 {
     let start = edges::start(s.phase + frequency, s.high, s.next_sample);

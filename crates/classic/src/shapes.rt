@@ -6,27 +6,21 @@ ghost use Rattle.classic.specs.Private.{width_room};
 use crate::OscillatorShape;
 use rooms::Room;
 
-// What a number names.
-#[derive(Clone, Copy)]
-pub enum Named {
-    NoShape,
-    Shape(OscillatorShape),
-}
-
 // The shapes by number, from 0, in the order of the source's `OscillatorShape`. Above 7 there is none.
-pub fn shape_of(number: u32) -> Named
+// A function and no TryFrom: it has this name in the documents.
+pub fn shape_of(number: u32) -> Option<OscillatorShape>
     ensures { result ≡ numbered number }
 {
     match number {
-        0 => Named::Shape(OscillatorShape::ImpulseTrain),
-        1 => Named::Shape(OscillatorShape::Saw),
-        2 => Named::Shape(OscillatorShape::Triangle),
-        3 => Named::Shape(OscillatorShape::Slope),
-        4 => Named::Shape(OscillatorShape::Square),
-        5 => Named::Shape(OscillatorShape::SquareBright),
-        6 => Named::Shape(OscillatorShape::SquareDark),
-        7 => Named::Shape(OscillatorShape::SquareTriangle),
-        8..=4294967295 => Named::NoShape,
+        0 => Some(OscillatorShape::ImpulseTrain),
+        1 => Some(OscillatorShape::Saw),
+        2 => Some(OscillatorShape::Triangle),
+        3 => Some(OscillatorShape::Slope),
+        4 => Some(OscillatorShape::Square),
+        5 => Some(OscillatorShape::SquareBright),
+        6 => Some(OscillatorShape::SquareDark),
+        7 => Some(OscillatorShape::SquareTriangle),
+        8..=4294967295 => None,
     }
 }
 
@@ -35,14 +29,8 @@ pub(crate) fn steps_width(shape: OscillatorShape) -> bool
     ensures { result ≡ steps_width shape }
 {
     match shape {
-        OscillatorShape::ImpulseTrain => true,
-        OscillatorShape::Saw => true,
-        OscillatorShape::Triangle => false,
-        OscillatorShape::Slope => true,
-        OscillatorShape::Square => true,
-        OscillatorShape::SquareBright => true,
-        OscillatorShape::SquareDark => true,
-        OscillatorShape::SquareTriangle => false,
+        OscillatorShape::Triangle | OscillatorShape::SquareTriangle => false,
+        _ => true,
     }
 }
 

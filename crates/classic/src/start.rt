@@ -4,33 +4,20 @@ ghost use Rattle.classic.specs.State.{lp_coeff, initial_state};
 ghost use Rattle.classic.specs.Start.{started_at, as_start};
 
 use crate::State;
-use block::Answer;
+use block::Refusal;
 
 // The source's lib.rs, line 25.
 const REF_SAMPLE_RATE: f32 = 48000.0;
 
-// What a start gives.
-#[derive(Clone, Copy)]
-pub struct Started {
-    pub answer: Answer,
-    pub state: State,
-}
-
-// The state given is not looked at: it comes back where the rate is outside.
-pub fn init(state: State, sample_rate: f32) -> Started
-    ensures { as_start result ≡ started_at state sample_rate }
+// The state given is not looked at: it stays as it is where the rate is outside.
+pub fn init(state: &mut State, sample_rate: f32) -> Result<(), Refusal>
+    ensures { as_start result state.new ≡ started_at state.old sample_rate }
 {
-    if ranges::within(8000.0, 384000.0, sample_rate) {
-        Started {
-            answer: Answer::Done,
-            state: initial(sample_rate),
-        }
-    } else {
-        Started {
-            answer: Answer::BadParam,
-            state,
-        }
+    if !ranges::within(8000.0, 384000.0, sample_rate) {
+        return Err(Refusal::BadParam);
     }
+    *state = initial(sample_rate);
+    Ok(())
 }
 
 // Line 61: a product, and then a quotient.

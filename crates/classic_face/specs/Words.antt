@@ -1,11 +1,10 @@
 -- The classic oscillator's state as nine words, in the order of its fields. Assumes nothing.
-use Rattle.std.specs.Prelude.{cond, List, [], ◌∷◌, ℕ, eqb, leb, length, get_or, Float}
+use Rattle.std.specs.Prelude.{cond, Option, None, Some, List, [], ◌∷◌, ℕ, eqb, leb, length, get_or, Float}
 use Rattle.floats.specs.F32.{f32}
 use Rattle.block.specs.Counting.{one_if}
 use Rattle.block.specs.Calls.{Call, refusal}
 use Rattle.classic.specs.declared.State.{State}
-use Rattle.classic.specs.declared.shapes.Named.{Named}
-use Rattle.classic.specs.declared.shapes.Named.TheVariants.{NoShape, Shape}
+use Rattle.classic.specs.declared.OscillatorShape.{OscillatorShape}
 use Rattle.classic.specs.Shapes.{numbered}
 use Rattle.classic.specs.Start.{Start, started_at}
 use Rattle.classic.specs.Block.{state_in, render_of}
@@ -53,9 +52,9 @@ abbrev pub init_face : List ℕ → Float → StartFace
 init_face w sample_rate = start_of w (started_at (state_of w) sample_rate)
 
 -- the call of the shape that was named; where none was, "above 7 is 4 in the place of a bad parameter": after the length's check and the state's
-abbrev pub called_of : Named → State → Float → Float → List Float → Call State
-called_of (Shape shape) s frequency pw xs = render_of s frequency pw shape xs
-called_of NoShape s frequency pw xs = refusal (cond (leb (length xs) 4096) (cond (state_in s) 4 3) 1) 0 s xs
+abbrev pub called_of : Option OscillatorShape → State → Float → Float → List Float → Call State
+called_of (Some shape) s frequency pw xs = render_of s frequency pw shape xs
+called_of None s frequency pw xs = refusal (cond (leb (length xs) 4096) (cond (state_in s) 4 3) 1) 0 s xs
 
 -- what `render` leaves: the oscillator's own call, on the state of the given words, put into words. Where the one for `high` is neither 0 nor 1 they are
 -- no state, and refused as a bad one is

@@ -1,13 +1,16 @@
 // The classic oscillator over lent arrays of 32-bit words, for the face.
 #![tactic(auto)]
 
-ghost use Rattle.std.specs.Prelude.{◌≡◌, cond};
+ghost use Rattle.std.specs.Prelude.{◌≡◌, cond, Some, None, get_or};
+ghost use Rattle.words.specs.Face.{no_bool};
 ghost use Rattle.classic.specs.Shapes.{numbered};
-ghost use Rattle.classic.specs.Block.{as_call};
-ghost use Rattle.classic_face.specs.Words.{state_of, words_of, init_face, called_of, render_face};
+ghost use Rattle.classic_face.specs.Words.{state_of, words_of, init_face, render_face};
+ghost use Rattle.classic_face.specs.Private.{parameters_of};
 
-use classic::{Named, OscillatorShape, Rendered, State};
+use classic::{OscillatorShape, Parameters, State};
+use words::Words;
 
+// Fields and words in the header's order, and answers by number: the C interface has them so, of each oscillator for itself.
 // Any words are read. Whether the one for `high` stands for a bool is asked before a block, and does not matter to a start.
 fn state_of(w: [u32; 9]) -> State
     ensures { result ≡ state_of w }
@@ -42,12 +45,32 @@ fn words_of(s: State) -> [u32; 9]
     ]
 }
 
-// Words that are not stored stay bit by bit, a NaN in them too.
-fn store(words: &mut [u32; 9], stored: bool, after: [u32; 9])
-    ensures { words.new ≡ cond stored after words.old }
-{
-    if stored {
-        *words = after;
+// The words in the order of the fields.
+struct InOrder;
+
+impl Words<9> for InOrder {
+    type State = State;
+
+    ghost state_of = { state_of };
+
+    ghost words_of = { words_of };
+
+    ghost is_no_state = { λ w. no_bool (get_or w 4 0) };
+
+    fn read(w: [u32; 9]) -> Option<State>
+        ensures { result ≡ cond (no_bool (get_or w 4 0)) None (Some (state_of w)) }
+    {
+        if words::no_bool(w[4]) {
+            None
+        } else {
+            Some(state_of(w))
+        }
+    }
+
+    fn write(s: State) -> [u32; 9]
+        ensures { result ≡ words_of s }
+    {
+        words_of(s)
     }
 }
 
@@ -55,21 +78,30 @@ fn store(words: &mut [u32; 9], stored: bool, after: [u32; 9])
 pub fn init(words: &mut [u32; 9], sample_rate: f32) -> u32
     ensures { record { words = words.new; number = result } ≡ init_face words.old sample_rate }
 {
-    let r = classic::init(state_of(*words), sample_rate);
-    let answer = r.answer;
-    let state = r.state;
-    let number = block::number(answer);
-    store(words, number == 0, words_of(state));
-    number
+    let mut state = state_of(*words);
+    let answer = classic::init(&mut state, sample_rate);
+    if answer.is_ok() {
+        *words = words_of(state);
+    }
+    block::number(answer)
 }
 
-// The call of the shape with this number. Where there is none it is made with a frequency of 0, which is refused in the same place.
-fn call(state: State, frequency: f32, pw: f32, shape: u32, out: &mut [f32]) -> Rendered
-    ensures { as_call result out.new ≡ called_of (numbered shape) state frequency pw out.old }
+// The parameters of a call of the shape with this number. Where there is none the frequency is 0, which is refused in
+// the same place: what is asked before it, the length and the state, comes first here too.
+fn parameters_of(frequency: f32, pw: f32, shape: u32) -> Parameters
+    ensures { result ≡ parameters_of (numbered shape) frequency pw }
 {
     match classic::shape_of(shape) {
-        Named::Shape(named) => classic::render(state, frequency, pw, named, out),
-        Named::NoShape => classic::render(state, 0.0, pw, OscillatorShape::Saw, out),
+        Some(shape) => Parameters {
+            frequency,
+            pw,
+            shape,
+        },
+        None => Parameters {
+            frequency: 0.0,
+            pw,
+            shape: OscillatorShape::Saw,
+        },
     }
 }
 
@@ -84,15 +116,5 @@ pub fn render(
 ) -> u32
     ensures { record { answer = result; words = words.new; result = res.new; samples = out.new } ≡ render_face words.old frequency pw shape out.old }
 {
-    if words::no_bool(words[4]) {
-        *res = words::no_state(out.len());
-        return res[0];
-    }
-    let r = call(state_of(*words), frequency, pw, shape, out);
-    let answer = r.answer;
-    let counts = r.counts;
-    let state = r.state;
-    *res = words::result_of(answer, counts);
-    store(words, words::stores(answer, out.len()), words_of(state));
-    res[0]
+    words::render::<InOrder, _, _>(words, parameters_of(frequency, pw, shape), out, res)
 }

@@ -1,17 +1,19 @@
 -- What is promised of the classic oscillator by shape. Assumes nothing.
 use mathlib.Core.Path.{◌≡◌, refl}
-use mathlib.Core.Bool.{Bool, true, false}
+use mathlib.Core.Bool.{true}
 use mathlib.Core.List.{List, [], ◌∷◌}
 use native.Mathlib.Omega.{arith}
 use lib.ListN.{get_or}
 use lib.Ieee.{Float, le}
+use Rattle.std.specs.Prelude.{Some}
 use Rattle.floats.specs.F32.{◌⊕◌, zero32, one32}
+use Rattle.floats.proofs.Bools.{cond_both}
 use Rattle.ranges.specs.Ranges.{unit_in}
-use Rattle.rooms.specs.declared.Found.TheVariants.{Outside}
 use Rattle.rooms.specs.Steps.{first_outside}
 use Rattle.block.specs.declared.Counts.{Counts}
 use Rattle.block.specs.Counting.{no_counts, plus}
-use Rattle.block.specs.Play.{Sample, play}
+use Rattle.block.specs.declared.sample.Sample.{Sample}
+use Rattle.block.specs.Play.{play}
 use Rattle.block.specs.Calls.{Call}
 use Rattle.block.specs.Checks.{here, later}
 use Rattle.block.specs.Oscillator.{call_of, steps_in, Way, refused, drifted, answered}
@@ -55,11 +57,7 @@ factors_kept shape s frequency pw xs = call_keeps s _ (FactorsKept s) (λ q c st
 -- ---- ImpulseTrain and Saw
 saw_sides : (f : Float) (e : Edge) → ((saw_edges f e).high ≡ e.high) × ((saw_edges f e).crossings ≡ e.crossings)
 unfolding saw_edges saw_wrap
-saw_sides f e = go (le one32 e.phase) refl
-  where
-    go : (o : Bool) → le one32 e.phase ≡ o → ((saw_edges f e).high ≡ e.high) × ((saw_edges f e).crossings ≡ e.crossings)
-    go true h = rw h (refl, refl)
-    go false h = rw h (refl, refl)
+saw_sides f e = cond_both (λ (d : Edge). (d.high ≡ e.high) × (d.crossings ≡ e.crossings)) (le one32 e.phase) _ _ (refl, refl) (refl, refl)
 
 -- of a shape whose edges are the saw's
 module _ (shape : OscillatorShape) (same : (f w : Float) (e : Edge) → edges_of shape f w e ≡ saw_edges f e) where
@@ -96,7 +94,7 @@ module _ (s : State) (frequency pw : Float) (shape : OscillatorShape) (xs : List
   abbrev call : Arguments
   call = record { frequency = frequency; pw = pw; shape = shape; buffer = xs }
 
-  drifting : {c : Call State} → Way classic s call c → c.number ≡ 6 → first_outside (rooms shape) (steps_in classic s call) ≡ Outside c.index
+  drifting : {c : Call State} → Way classic s call c → c.number ≡ 6 → first_outside (rooms shape) (steps_in classic s call) ≡ Some c.index
   drifting (refused (here h)) e = absurd (omega (arith, e))
   drifting (refused (later g (here h))) e = absurd (omega (arith, e))
   drifting (refused (later f (later g (here h)))) e = absurd (omega (arith, e))

@@ -62,7 +62,7 @@ variable_saw_in_01 = saw-as-in-01
 
 -- ---- without sync nothing is late
 none_told : {c : Counts} → NoneLate c → late c ≡ 0
-none_told h = rw (h.rises, h.falls) refl
+none_told h = rw (h.rises, h.falls)
 
 never_late : {S A : Type 0} (o : Oscillator S A) → ((a : A) (s : S) (steps : List Float) (x : Float) → NoneLate (o.sample a s steps x).counts) → NeverLate o
 never_late o one = record { apart = call_none_late o one; told = λ s a. none_told (call_none_late o one s a) }

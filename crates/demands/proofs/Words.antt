@@ -9,6 +9,8 @@ use borrow.Author.Tests.{lt-ltb}
 use lib.Dec.{eqb, leb}
 use lib.ListN.{length, get_or, get_or-eq_default}
 use lib.Ieee.{Float}
+use Rattle.std.specs.Prelude.{None}
+use Rattle.floats.proofs.Bools.{cond_both}
 use Rattle.block.specs.Calls.{refusal}
 use Rattle.block.specs.Oscillator.{Oscillator, call_of}
 use Rattle.super_square.specs.Block.{super_square}
@@ -17,7 +19,7 @@ use Rattle.variable_saw.specs.Block.{variable_saw}
 use Rattle.nes_triangle.specs.Block.{nes_triangle}
 use Rattle.string_synth.specs.Block.{string_synth}
 use Rattle.words.specs.Face.{Face, face_of, no_bool, refused_face, no_state, AnsweredOrKept}
-use Rattle.words.proofs.Faces.{answered_or_kept, empty_face, either_way, returned_first}
+use Rattle.words.proofs.Faces.{answered_or_kept, empty_face, returned_first}
 use Rattle.super_square_face.specs.Words as SuperSquare
 use Rattle.variable_shape_face.specs.Words as Shape
 use Rattle.variable_saw_face.specs.Words as Saw
@@ -25,7 +27,6 @@ use Rattle.nes_triangle_face.specs.Words as Nes
 use Rattle.nes_triangle_face.proofs.BadWords.{negative_step}
 use Rattle.string_synth_face.specs.Words as String
 use Rattle.string_synth_face.proofs.BadWords.{negative_segment}
-use Rattle.classic.specs.declared.shapes.Named.TheVariants.{NoShape}
 use Rattle.classic.specs.Shapes.{in_order, numbered}
 use Rattle.classic.specs.State.{initial_state}
 use Rattle.classic.specs.Start.{sample_rate_in}
@@ -66,8 +67,8 @@ pub classic_no_shape : (w : List ℕ) (frequency pw : Float) (shape : ℕ) (xs :
 unfolding face_of
 classic_no_shape w frequency pw shape xs h = rw none (go (leb (length xs) 4096) (no_bool (get_or w 4 0)) (state_in (Classic.state_of w)))
   where
-    none : numbered shape ≡ NoShape
-    none = get_or-eq_default in_order NoShape {n = shape} (omega (arith, h))
+    none : numbered shape ≡ None
+    none = get_or-eq_default in_order None {n = shape} (omega (arith, h))
 
     go : (short bad fit : Bool)
         → cond bad (refused_face (cond short 3 1) 0 w xs) (face_of Classic.words_of w (refusal (cond short (cond fit 4 3) 1) 0 (Classic.state_of w) xs))
@@ -99,8 +100,8 @@ called o words_of state_of given same = record {
 -- of a face whose state has a bool: what holds of the oscillator's own call holds of words that are no state too
 kept : (place : ℕ) {call : Rendering} → Kept call → Kept (λ w xs. cond (no_bool (get_or w place 0)) (no_state w xs) (call w xs))
 kept place k = record {
-  refused = λ w xs. either_way (AnsweredOrKept w xs) (no_bool (get_or w place 0)) (inr refl) (k.refused w xs);
-  empty = λ w. either_way (λ (f : Face). f.words ≡ w) (no_bool (get_or w place 0)) refl (k.empty w);
+  refused = λ w xs. cond_both (AnsweredOrKept w xs) (no_bool (get_or w place 0)) _ _ (inr refl) (k.refused w xs);
+  empty = λ w. cond_both (λ (f : Face). f.words ≡ w) (no_bool (get_or w place 0)) _ _ refl (k.empty w);
 }
 
 pub super_square_kept : (frequency shape : Float) → Kept (λ w. SuperSquare.render_face w frequency shape)

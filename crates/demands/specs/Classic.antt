@@ -1,9 +1,8 @@
 -- What is promised of the classic oscillator by shape, beside the demands: of every call, answered or refused. Assumes nothing.
-use Rattle.std.specs.Prelude.{◌≡◌, true, List, [], ◌∷◌, length, Float}
+use Rattle.std.specs.Prelude.{◌≡◌, true, Some, List, [], ◌∷◌, length, Float}
 use Rattle.parameter_interpolator.specs.Interpolator.{new_interpolator}
 use Rattle.ranges.specs.Ranges.{unit_in}
 use Rattle.rooms.specs.declared.Room.TheVariants.{Frequency}
-use Rattle.rooms.specs.declared.Found.TheVariants.{Outside}
 use Rattle.rooms.specs.Steps.{steps_of, first_outside}
 use Rattle.block.specs.declared.Counts.{Counts}
 use Rattle.block.specs.Counting.{all_rises, all_falls}
@@ -39,7 +38,7 @@ pub record FactorsKept (s after : State) (c : Counts) : Type 0 where
 abbrev pub DriftsByFrequency : OscillatorShape → Type 0
 DriftsByFrequency shape =
     (s : State) (frequency pw : Float) (xs : List Float) → (let c = render_of s frequency pw shape xs in
-    c.number ≡ 6 → first_outside (Frequency ∷ []) (steps_of (length xs) (new_interpolator s.frequency (frequency_target frequency) (length xs) ∷ [])) ≡ Outside c.index)
+    c.number ≡ 6 → first_outside (Frequency ∷ []) (steps_of (length xs) (new_interpolator s.frequency (frequency_target frequency) (length xs) ∷ [])) ≡ Some c.index)
 
 -- their width is 0.5: whichever width in its range a call asks for, it gives the same
 abbrev pub WidthUnread : OscillatorShape → Type 0

@@ -1,7 +1,7 @@
 -- Today's crossings with the late ones added back are those that 01 counted: of one, of the loop around them, and of a sample with a reset. Assumes nothing.
-use Rattle.std.proofs.Common.{◌≡◌, ℕ, zero, suc, ◌+◌, ◌≤◌, Bool, true, false, cond, not, ◌&&◌, sym, refl, ap, ◌∙◌, arith}
+use Rattle.std.proofs.Common.{◌≡◌, ℕ, zero, suc, ◌+◌, ◌≤◌, Bool, true, false, cond, not, ◌&&◌, None, sym, refl, ap, ◌∙◌, arith}
 use lib.Ieee.{Float, lt}
-use Rattle.floats.specs.F32.{zero32, one32}
+use Rattle.floats.specs.F32.{one32}
 use Rattle.block.proofs.Plays.{in_32}
 use Rattle.edges.specs.declared.AtReset.{AtReset}
 use Rattle.edges.specs.declared.Crossings.{Crossings}
@@ -23,8 +23,7 @@ edge_as_heard e = record {
   high = e.high;
   this_sample = e.this_sample;
   next_sample = e.next_sample;
-  reset = false;
-  reset_time = zero32;
+  reset = None;
   crossings = crossings_as_heard e.crossings;
 }
 

@@ -1,6 +1,6 @@
 -- The loop around the two crossings, for any width from 0 to below 1 and whatever a rise and a fall do to the samples: it leaves by its own break in its
 -- first or second turn, with the phase below 1, after at most two rises and one fall. Assumes nothing.
-use Rattle.std.proofs.Common.{◌≡◌, ℕ, suc, ◌+◌, ◌-◌, ◌*◌, ◌<◌, ◌≤◌, Bool, true, false, cond, not, ◌&&◌, ◌⊎◌, sym, refl, ap, ◌∙◌, subst, inl, inr, ⊎_elim, true≢false, arith}
+use Rattle.std.proofs.Common.{◌≡◌, ℕ, suc, ◌+◌, ◌-◌, ◌*◌, ◌≤◌, Bool, true, false, cond, not, ◌&&◌, ◌⊎◌, sym, refl, ap, ◌∙◌, subst, inl, inr, ⊎_elim, true≢false, arith}
 use borrow.Author.Tests.{not-true, not-false}
 use lib.Ieee.{Float, lt}
 use Rattle.floats.specs.F32.{one32}
@@ -187,16 +187,8 @@ module _ {x : Crosses} {e₀ e : Edge} (g : Going x e₀ e) where
         balance = rw ((x.falls r).high, one_fall) (rw (x.falls r).counts (omega (arith, balanced, no_fall)));
       }
 
-      module _ {f : Edge} (q : f ≡ x.fall r) where
-        pub going_on : Going x e₀ f
-        going_on = subst (Going x e₀) (sym q) fall_goes
-
-        -- the measure
-        pub again_less : again f < again e
-        again_less =
-            let a : again f ≡ 0 = rw (q, below_again) in
-            let b : again e ≡ 1 = ap (λ (t : Bool). cond t 0 1) (same_test w l) in
-            omega (arith, a, b)
+      pub going_on : {f : Edge} → f ≡ x.fall r → Going x e₀ f
+      going_on q = subst (Going x e₀) (sym q) fall_goes
 
 -- however many turns may follow, e comes to r, and there the loop ends by its own break
 record Ends (x : Crosses) (high : Bool) (e : Edge) : Type 0 where

@@ -12,13 +12,6 @@ use Rattle.edges.proofs.CrossingLoop.{Counted, looped, crossed_of}
 pub cut_crossable : {width : Float} (value time : Float) {a b e : Edge} → Crossable width a → b ≡ a → e ≡ cut_edge value time b → Crossable width e
 cut_crossable value time k p q = rw (q, p) (record { narrow = k.narrow; phase = k.phase; none = k.none })
 
--- the edge of a reset, from its parts: what the functions that it calls ensure
-pub reset_is : (width : Float) (naive : Float → Float) (crossed : Edge → Edge) (slavePhase slaveFrequency time : Float) {found : AtReset} {value : Float} {a b e r : Edge}
-    → found ≡ at_reset_of slavePhase a.high slaveFrequency width time → value ≡ naive found.slave_phase → b ≡ a → e ≡ cut_edge value time b
-    → r ≡ cond found.transition (crossed e) e → r ≡ reset_of width naive crossed slavePhase slaveFrequency time a
-unfolding reset_of
-reset_is width naive crossed slavePhase slaveFrequency time at-found at_value at_b at-e at-r = rw (at-r, at-e, at_b, at_value, at-found)
-
 -- what it counts
 pub reset_counted : (x : Crosses) (naive : Float → Float) (slavePhase slaveFrequency time : Float) (a : Edge) → Crossable x.width a
     → Counted a.high (reset_of x.width naive (looped x) slavePhase slaveFrequency time a)

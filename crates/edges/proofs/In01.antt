@@ -25,7 +25,6 @@ risen_of01 thisSample next_sample e = record {
   this_sample = thisSample;
   next_sample = next_sample;
   reset = e.reset;
-  reset_time = e.reset_time;
   crossings = rose01 e.crossings;
 }
 
@@ -36,7 +35,6 @@ wrapped_of01 phase thisSample next_sample e = record {
   this_sample = thisSample;
   next_sample = next_sample;
   reset = e.reset;
-  reset_time = e.reset_time;
   crossings = fell_if01 e.high e.crossings;
 }
 
@@ -47,7 +45,6 @@ fallen_of01 phase thisSample next_sample e = record {
   this_sample = thisSample;
   next_sample = next_sample;
   reset = e.reset;
-  reset_time = e.reset_time;
   crossings = fell_if01 true e.crossings;
 }
 
@@ -59,7 +56,6 @@ cut_edge01 value time e = record {
   this_sample = e.this_sample ⊖ value ⊗ this_blep_sample time;
   next_sample = e.next_sample ⊖ value ⊗ next_blep_sample time;
   reset = e.reset;
-  reset_time = e.reset_time;
   crossings = e.crossings;
 }
 

@@ -10,6 +10,8 @@ use Rattle.edges.proofs.wrapped
 use Rattle.edges.proofs.counts
 use Rattle.edges.proofs.at_reset
 use Rattle.edges.proofs.cut
+use Rattle.edges.proofs.crossing.is_uncrossed
+use Rattle.edges.proofs.crossing.pass
 use Rattle.edges.proofs.triangle.triangle
 use Rattle.edges.proofs.triangle.triangle_at
 use Rattle.edges.proofs.triangle.triangle_step
@@ -47,3 +49,9 @@ triangle_step_tight κs a r q v w h k = (coincide h k, refl)
 
 pub rise_time_tight : Determines (ended_of _ rise_time.Kinds.ps rise_time.Kinds.r) rise_time.Reads.Learnt
 rise_time_tight κs a r q v w h k = (coincide h k, refl)
+
+pub is_uncrossed_tight : Determines (ended_of _ is_uncrossed.Kinds.ps is_uncrossed.Kinds.r) is_uncrossed.Reads.Learnt
+is_uncrossed_tight κs a r q v w h k = (coincide h k, refl)
+
+pub pass_tight : (W : _) (l : _) (k : _) (c : _) (d : _) (e : _) (f : _) → Determines (ended_of _ (pass.Kinds.ps W l k) (pass.Kinds.r W l k)) (pass.Reads.Learnt W l k c d e f)
+pass_tight W l k c d e f κs a r q v w h i = (coincide h i, refl)

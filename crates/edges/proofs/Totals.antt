@@ -1,5 +1,5 @@
 -- Crossings, late and not late together: a rise adds one to the rises, a fall one to the falls, and where no reset is nothing is late. Assumes nothing.
-use Rattle.std.proofs.Common.{◌≡◌, ℕ, zero, suc, ◌+◌, ◌≤◌, Bool, true, false, cond, not, ◌&&◌, arith}
+use Rattle.std.proofs.Common.{◌≡◌, ℕ, zero, suc, ◌+◌, ◌≤◌, Bool, true, false, cond, not, ◌&&◌, None, arith}
 use lib.Ieee.{Float, lt}
 use Rattle.floats.specs.F32.{one32}
 use Rattle.block.proofs.Plays.{in_32}
@@ -44,7 +44,7 @@ turns_keep P width rise fall up down (suc k) e p = first (λ r q. turns_keep P w
 
 -- no reset, and nothing late
 pub record NoReset (e : Edge) : Type 0 where
-  pub free : e.reset ≡ false
+  pub free : e.reset ≡ None
   pub rises : e.crossings.late_rises ≡ 0
   pub falls : e.crossings.late_falls ≡ 0
 

@@ -1,6 +1,6 @@
 -- What a sample starts with, what it has crossed so far, and the counts that 01 makes of it: "each time `high` turns true or false by a crossing". Those that
 -- are late are counted apart, 02 (iii). Assumes nothing.
-use Rattle.std.specs.Prelude.{ℕ, ◌+◌, ◌%◌, ◌^◌, Bool, true, false, not, ◌&&◌, Float}
+use Rattle.std.specs.Prelude.{ℕ, ◌+◌, ◌%◌, ◌^◌, Bool, true, false, not, ◌&&◌, Float, Option, Some, None}
 use Rattle.std.specs.Float.Ieee.{lt}
 use Rattle.floats.specs.F32.{zero32}
 use Rattle.block.specs.declared.Counts.{Counts}
@@ -10,15 +10,19 @@ use Rattle.edges.specs.declared.Edge.{Edge}
 
 -- 02 (iii): "A crossing in a reset sample is late when its t is smaller than the reset time, compared as floats." So a NaN is not late, nor is one that is equal.
 -- t is how many samples ago the crossing was, as the source hands it to its smoothing. It can be negative, and without a reset that is not late either.
+abbrev pub late_after : Option Float → Float → Bool
+late_after None t = false
+late_after (Some time) t = lt t time
+
 abbrev pub is_late : Edge → Float → Bool
-is_late e t = e.reset && lt t e.reset_time
+is_late e t = late_after e.reset t
 
 abbrev pub no_crossings : Crossings
 no_crossings = record { rises = 0; falls = 0; late_rises = 0; late_falls = 0 }
 
--- the source's `this_sample = next_sample; next_sample = 0.0`, `reset = false` and `reset_time = 0.0`: a sample starts with what the one before left for it, and has crossed nothing
+-- the source's `this_sample = next_sample; next_sample = 0.0`, `reset = false` and `reset_time = 0.0`, a reset that is not there: a sample starts with what the one before left for it, and has crossed nothing
 abbrev pub start_of : Float → Bool → Float → Edge
-start_of phase high thisSample = record { phase = phase; high = high; this_sample = thisSample; next_sample = zero32; reset = false; reset_time = zero32; crossings = no_crossings }
+start_of phase high thisSample = record { phase = phase; high = high; this_sample = thisSample; next_sample = zero32; reset = None; crossings = no_crossings }
 
 -- one more where it holds. 32 bits hold the number, and a sample rises twice at most (`crossed_of` in proofs/CrossingLoop): it never starts again at 0.
 abbrev pub one_more_if : Bool → ℕ → ℕ
@@ -49,7 +53,6 @@ risen_of t thisSample next_sample e = record {
   this_sample = thisSample;
   next_sample = next_sample;
   reset = e.reset;
-  reset_time = e.reset_time;
   crossings = rose (is_late e t) e.crossings;
 }
 
@@ -61,7 +64,6 @@ fallen_of phase t thisSample next_sample e = record {
   this_sample = thisSample;
   next_sample = next_sample;
   reset = e.reset;
-  reset_time = e.reset_time;
   crossings = fell (is_late e t) e.crossings;
 }
 
@@ -73,7 +75,6 @@ wrapped_of phase t thisSample next_sample e = record {
   this_sample = thisSample;
   next_sample = next_sample;
   reset = e.reset;
-  reset_time = e.reset_time;
   crossings = fell_if e.high (is_late e t) e.crossings;
 }
 

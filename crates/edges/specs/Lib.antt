@@ -2,5 +2,6 @@
 pub mod Counted
 pub mod CrossingLoop
 pub mod Sync
+pub mod Synced
 pub mod Triangle
 pub mod Private

@@ -1,6 +1,6 @@
 -- A hard sync reset, which super_square_oscillator.rs (lines 73 to 93) and variable_shape_oscillator.rs (lines 114 to 138) share: the master
 -- has wrapped `time` samples ago, and the slave starts anew. Assumes nothing.
-use Rattle.std.specs.Prelude.{Bool, true, cond, not, ◌&&◌, ◌||◌, Float}
+use Rattle.std.specs.Prelude.{Bool, cond, not, ◌&&◌, ◌||◌, Float, Some}
 use Rattle.std.specs.Float.Ieee.{le}
 use Rattle.floats.specs.F32.{◌⊕◌, ◌⊖◌, ◌⊗◌, ◌⊘◌, one32}
 use Rattle.polyblep.specs.Polyblep.{this_blep_sample, next_blep_sample}
@@ -36,8 +36,7 @@ cut_edge value time e = record {
   high = e.high;
   this_sample = e.this_sample ⊖ value ⊗ this_blep_sample time;
   next_sample = e.next_sample ⊖ value ⊗ next_blep_sample time;
-  reset = true;
-  reset_time = time;
+  reset = Some time;
   crossings = e.crossings;
 }
 

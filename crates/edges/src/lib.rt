@@ -7,7 +7,11 @@ ghost use Rattle.edges.specs.Sync.{slave_at_reset, wrap_once, transition_during_
 
 use block::Counts;
 
+mod crossing;
 pub mod triangle;
+
+// A sample with its crossings, for any waveform.
+pub use crossing::{Crossing, Master, Passed, Slave, is_uncrossed, pass};
 
 // How often `high` has turned true and false by a crossing so far, those that are late apart. Only the functions here make them: an oscillator
 // hands them on in its edge.
@@ -19,7 +23,7 @@ pub struct Crossings {
     pub late_falls: u32,
 }
 
-// The slave's phase and side, the sample and what the next one starts with; whether a master's wrap has reset the sample, and how many samples ago; and the
+// The slave's phase and side, the sample and what the next one starts with; how many samples ago a master's wrap has reset the sample, if one has; and the
 // crossings so far.
 #[derive(Clone, Copy)]
 pub struct Edge {
@@ -27,8 +31,7 @@ pub struct Edge {
     pub high: bool,
     pub this_sample: f32,
     pub next_sample: f32,
-    pub reset: bool,
-    pub reset_time: f32,
+    pub reset: Option<f32>,
     pub crossings: Crossings,
 }
 
@@ -36,7 +39,7 @@ pub struct Edge {
 fn is_late(e: Edge, t: f32) -> bool
     ensures { result ≡ is_late e t }
 {
-    e.reset & (t < e.reset_time)
+    e.reset.is_some_and(|time| t < time)
 }
 
 // The start of a sample: what the one before left for it is `this_sample`, and nothing is crossed yet.
@@ -48,8 +51,7 @@ pub fn start(phase: f32, high: bool, this_sample: f32) -> Edge
         high,
         this_sample,
         next_sample: 0.0,
-        reset: false,
-        reset_time: 0.0,
+        reset: None,
         crossings: Crossings {
             rises: 0,
             falls: 0,
@@ -64,10 +66,9 @@ fn rose(c: Crossings, late: bool) -> Crossings
     ensures { result ≡ rose_of late c }
 {
     Crossings {
-        rises: std::num::wrapping_add_u32(c.rises, block::one_if(!late)),
-        falls: c.falls,
-        late_rises: std::num::wrapping_add_u32(c.late_rises, block::one_if(late)),
-        late_falls: c.late_falls,
+        rises: c.rises.wrapping_add(block::one_if(!late)),
+        late_rises: c.late_rises.wrapping_add(block::one_if(late)),
+        ..c
     }
 }
 
@@ -76,25 +77,23 @@ fn fell_if(high: bool, c: Crossings, late: bool) -> Crossings
     ensures { result ≡ fell_if high late c }
 {
     Crossings {
-        rises: c.rises,
-        falls: std::num::wrapping_add_u32(c.falls, block::one_if(high & !late)),
-        late_rises: c.late_rises,
-        late_falls: std::num::wrapping_add_u32(c.late_falls, block::one_if(high & late)),
+        falls: c.falls.wrapping_add(block::one_if(high & !late)),
+        late_falls: c.late_falls.wrapping_add(block::one_if(high & late)),
+        ..c
     }
 }
 
-// e after a rise t samples ago, with the samples that it makes.
+// e after a rise t samples ago, with the samples that it makes. They come one by one, as do those of a fall and a wrap: a struct of them would be the
+// Edge itself, half filled.
 pub fn risen(e: Edge, t: f32, this_sample: f32, next_sample: f32) -> Edge
     ensures { result ≡ risen_of t this_sample next_sample e }
 {
     Edge {
-        phase: e.phase,
         high: true,
         this_sample,
         next_sample,
-        reset: e.reset,
-        reset_time: e.reset_time,
         crossings: rose(e.crossings, is_late(e, t)),
+        ..e
     }
 }
 
@@ -107,9 +106,8 @@ pub fn fallen(e: Edge, phase: f32, t: f32, this_sample: f32, next_sample: f32) -
         high: false,
         this_sample,
         next_sample,
-        reset: e.reset,
-        reset_time: e.reset_time,
         crossings: fell_if(true, e.crossings, is_late(e, t)),
+        ..e
     }
 }
 
@@ -122,9 +120,8 @@ pub fn wrapped(e: Edge, phase: f32, t: f32, this_sample: f32, next_sample: f32) 
         high: false,
         this_sample,
         next_sample,
-        reset: e.reset,
-        reset_time: e.reset_time,
         crossings: fell_if(e.high, e.crossings, is_late(e, t)),
+        ..e
     }
 }
 
@@ -193,10 +190,10 @@ pub fn at_reset(
 pub fn cut(e: Edge, value: f32, time: f32) -> Edge
     ensures { result ≡ cut_edge value time e }
 {
-    let mut r = e;
-    r.this_sample = e.this_sample - value * polyblep::this_blep_sample(time);
-    r.next_sample = e.next_sample - value * polyblep::next_blep_sample(time);
-    r.reset = true;
-    r.reset_time = time;
-    r
+    Edge {
+        this_sample: e.this_sample - value * polyblep::this_blep_sample(time),
+        next_sample: e.next_sample - value * polyblep::next_blep_sample(time),
+        reset: Some(time),
+        ..e
+    }
 }

@@ -6,12 +6,12 @@ use native.Mathlib.Omega.{arith}
 use borrow.Author.Tests.{le-leb}
 use lib.ListN.{length}
 use lib.Ieee.{Float, add, sub, mul, div, neg, lt, le, of_int, of_bits}
+use Rattle.std.specs.Prelude.{Some}
 use Rattle.floats.specs.F32.{f32, zero32, half32, min_frequency}
 use Rattle.parameter_interpolator.specs.declared.ParameterInterpolator.{ParameterInterpolator}
 use Rattle.parameter_interpolator.specs.Interpolator.{new_interpolator}
 use Rattle.ranges.specs.Ranges.{all_of}
 use Rattle.ranges.specs.Targets.{clipped, clamped_width}
-use Rattle.rooms.specs.declared.Found.TheVariants.{Outside}
 use Rattle.rooms.specs.Steps.{moved, values, steps_of, all_in, first_outside}
 use Rattle.block.specs.Calls.{refusal}
 use Rattle.block.specs.Oscillator.{drifted}
@@ -28,7 +28,7 @@ drifting =
     ∷ new_interpolator zero32 zero32 4096
     ∷ []
 
-drift_found : first_outside rooms (steps_of 4096 drifting) ≡ Outside 4095
+drift_found : first_outside rooms (steps_of 4096 drifting) ≡ Some 4095
 unfolding first_outside steps_of all_in moved values add sub mul div neg lt le of_int of_bits
 drift_found = refl
 
@@ -39,7 +39,7 @@ drift_parameters = refl
 pub drift : (s : State) (xs : List Float) → Drifting s → state_in s ≡ true → length xs ≡ 4096 → render_of s min_frequency half32 zero32 xs ≡ refusal 6 4095 s xs
 drift s xs d a l =
     let call : Arguments = record { frequency = min_frequency; pw = half32; waveshape = zero32; buffer = xs } in
-    let found : first_outside rooms (steps_of (length xs) (interpolators s min_frequency half32 zero32 (length xs))) ≡ Outside 4095 = rw (l, d.frequency, d.pw, d.waveshape) drift_found in
+    let found : first_outside rooms (steps_of (length xs) (interpolators s min_frequency half32 zero32 (length xs))) ≡ Some 4095 = rw (l, d.frequency, d.pw, d.waveshape) drift_found in
     goes variable_saw s call (drifted (le-leb (length xs) 4096 (omega arith), (a, (drift_parameters, tt))) found)
 
 -- there is such a state: `init`'s, but for its frequency

@@ -14,4 +14,5 @@ pub mod PowerOfTwo
 pub mod WholeNumbers
 pub mod Integers
 pub mod Tightness
+pub mod Nans
 pub mod Tight

@@ -1,4 +1,4 @@
-// Rust's f32::min, max, clamp and abs, worked out with comparisons, and floats from and to bit patterns.
+// Rust's f32::min, max, clamp and abs for all floats, and floats from and to bit patterns.
 #![tactic(auto)]
 
 ghost use Rattle.std.specs.Prelude.{◌≡◌};
@@ -11,14 +11,14 @@ ghost use Rattle.floats.specs.Helpers.{min_of, max_of, at_least, clamp_of, abs_o
 pub fn min(x: f32, y: f32) -> f32
     ensures { result ≡ min_of x y }
 {
-    if (x < y) | (y != y) { x } else { y }
+    if (x < y) | y.is_nan() { x } else { y }
 }
 
-// As `min`, with the test turned round.
+// As `min`, with the test turned round: one function for both would take the test from its caller, and be no plainer.
 pub fn max(x: f32, y: f32) -> f32
     ensures { result ≡ max_of x y }
 {
-    if (y < x) | (y != y) { x } else { y }
+    if (y < x) | y.is_nan() { x } else { y }
 }
 
 // At least `low`, and then at most `high`. A NaN stays one. Rust panics where `low` is above `high`; this gives `high`.
@@ -36,17 +36,11 @@ fn at_least(x: f32, low: f32) -> f32
     if x < low { low } else { x }
 }
 
-// A zero of either sign becomes 0.0, since it is not below 0.
+// A zero of either sign becomes 0.0.
 pub fn abs(x: f32) -> f32
     ensures { result ≡ abs_of x }
 {
-    if x < 0.0 {
-        -x
-    } else if x == 0.0 {
-        0.0
-    } else {
-        x
-    }
+    x.abs()
 }
 
 // The float of any pattern. f32::from_bits is undefined at a NaN's, which lie above an infinity's.
@@ -64,5 +58,9 @@ pub fn from_bits(bits: u32) -> f32
 pub fn to_bits(x: f32) -> u32
     ensures { result ≡ to_bits binary32 x }
 {
-    if x != x { 0x7fc0_0000 } else { f32::to_bits(x) }
+    if x.is_nan() {
+        0x7fc0_0000
+    } else {
+        f32::to_bits(x)
+    }
 }

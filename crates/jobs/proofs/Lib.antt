@@ -1,6 +1,5 @@
 -- The laws of job records.
-pub mod Past
-pub mod ByteByByte
+pub mod Named
 pub mod Plays
 pub mod Steps
 pub mod Tight

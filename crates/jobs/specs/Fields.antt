@@ -1,5 +1,6 @@
 -- The table of 01, "Job records and the renderer", with kind 6 of 02 (i): which kinds use which bytes. "Unused bytes must be zero". Assumes nothing.
-use Rattle.std.specs.Prelude.{Bool, true, ◌&&◌, ◌||◌, List, [], ◌∷◌, ℕ, suc, eqb, leb}
+use Rattle.std.specs.Prelude.{Bool, ◌&&◌, ◌||◌, List, ℕ, eqb, leb}
+use Rattle.std.specs.List.{list_all, enumerate_from}
 
 -- byte i is one of those from first to last
 abbrev pub between : ℕ → ℕ → ℕ → Bool
@@ -24,11 +25,6 @@ byte_used kind i =
 abbrev pub byte_fine : ℕ → ℕ → ℕ → Bool
 byte_fine kind i byte = byte_used kind i || eqb byte 0
 
--- the same of the bytes from byte i on
-unfoldable pub unused_zero_from : ℕ → ℕ → List ℕ → Bool
-unused_zero_from kind i [] = true
-unused_zero_from kind i (byte ∷ rest) = byte_fine kind i byte && unused_zero_from kind (suc i) rest
-
--- and of the whole record
+-- and of every byte of the record
 abbrev pub unused_zero : ℕ → List ℕ → Bool
-unused_zero kind p = unused_zero_from kind 0 p
+unused_zero kind p = list_all (λ field. byte_fine kind field.0 field.1) (enumerate_from 0 p)

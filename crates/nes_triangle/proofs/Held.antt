@@ -1,31 +1,22 @@
 -- A sample with neither a peak nor a new step: two tests of floats tell that the step is the state's, and little of the definition is left. Its step and that
 -- step's level are held as floats. Assumes nothing.
-use Rattle.std.proofs.Common.{◌≡◌, ℕ, ◌+◌, ◌^◌, ◌<◌, ◌≤◌, Bool, true, false, not, ◌&&◌, ℤ, pos, nat_abs, refl, arith, to_z-of_z, w32, to_z, of_z, eq-eqb}
+use Rattle.std.proofs.Common.{◌≡◌, ℕ, ◌+◌, ◌^◌, ◌<◌, ◌≤◌, Bool, true, false, not, ◌&&◌, pos, nat_abs, refl, arith, eq-eqb}
 use borrow.Author.Tests.{not-true}
 use lib.Ieee.{Float, binary32, le, lt}
 use lib.Ieee.Fits.{mul-fits}
-use Rattle.floats.specs.F32.{whole32, ◌⊕◌, ◌⊖◌, ◌⊗◌, zero32, half32, one32}
+use Rattle.floats.specs.F32.{◌⊕◌, ◌⊖◌, ◌⊗◌, zero32, half32, one32}
 use Rattle.floats.proofs.Bools.{and_both}
 use Rattle.whole_part.specs.WholePart.{whole_part, is_whole}
 use Rattle.whole_part.proofs.Tested.{whole_part_between}
 use Rattle.block.specs.Counting.{no_counts}
-use Rattle.block.specs.Play.{Sample}
+use Rattle.block.specs.declared.sample.Sample.{Sample}
 use Rattle.nes_triangle.specs.declared.State.{State}
 use Rattle.nes_triangle.specs.declared.depth.Depth.{Depth}
 use Rattle.nes_triangle.specs.declared.quiet.Held.{Held}
-use Rattle.nes_triangle.specs.declared.sample.Sampled.{Sampled}
 use Rattle.nes_triangle.specs.Depth.{depth_of}
-use Rattle.nes_triangle.specs.Sample.{stepped_of, gains_of, peak_of, edge_of, trough_of, sound_of, nes_level, tri_level, finish, sample_of}
-use Rattle.nes_triangle.specs.Private.{Below, Ready, Passed}
+use Rattle.nes_triangle.specs.Sample.{stepped_of, gains_of, peak_of, edge_of, trough_of, sound_of, tri_level, finish, sample_of}
+use Rattle.nes_triangle.specs.Private.{Below, Ready, Passed, Holds}
 use Rattle.nes_triangle.proofs.Depths.{few_steps, top_most, top_few}
-
--- h holds the step of s, and its level
-abbrev pub Holds : Depth → State → Held → Type 0
-Holds d s h = (h.at ≡ whole32 (nat_abs s.step)) × (h.level ≡ whole32 (nes_level (nat_abs s.step) d.half d.top))
-
--- a step of at most the top, read back from its bits
-pub step_back : {z : ℤ} {top : ℕ} (b : Below z (top + 1)) → top < 65536 → to_z w32 (of_z w32 z) ≡ pos b.n
-step_back b few = rw b.is (to_z-of_z {w = w32} (record { sfits = omega (arith, b.under) }))
 
 -- the step of a state that passed its tests is one that can be held
 pub holdable : {bits : ℕ} {s : State} {d : Depth} → d ≡ depth_of bits → Passed bits s → Below s.step (d.top + 1) × (d.top < 65536)
@@ -84,8 +75,8 @@ module _ {d : Depth} {s : State} {h : Held} {frequency : Float} (r : Ready d s f
   sample_quiet = rw (on_step, whole_same, same_step, passed.2, still s.ascending (le half32 (s.phase ⊕ frequency)) passed.2, at-h.1)
 
   -- nothing is counted, and the same step is held
-  pub quiet_made : {t : Sampled} → t ≡ sample_of d s frequency → ◌≡◌ {A = Sample State} (record { state = t.state; sample = t.sample; counts = no_counts }) (record { state = t.state; sample = t.sample; counts = t.counts })
+  pub quiet_made : {t : Sample State} → t ≡ sample_of d s frequency → ◌≡◌ {A = Sample State} (record { state = t.state; sample = t.sample; counts = no_counts }) (record { state = t.state; sample = t.sample; counts = t.counts })
   quiet_made e = rw (e, sample_quiet)
 
-  pub quiet_holds : {t : Sampled} → t ≡ sample_of d s frequency → Holds d t.state h
+  pub quiet_holds : {t : Sample State} → t ≡ sample_of d s frequency → Holds d t.state h
   quiet_holds e = rw (e, sample_quiet) at-h

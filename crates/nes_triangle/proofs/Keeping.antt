@@ -10,10 +10,11 @@ use Rattle.rooms.proofs.RangeLaws.{frequency_step, step_frequency}
 use Rattle.floats.proofs.Bools.{and_both}
 use Rattle.block.specs.Counting.{all_rises, all_falls}
 use Rattle.block.specs.Fit.{Inside}
-use Rattle.block.proofs.Plays.{one_most, Keeps}
+use Rattle.block.specs.Voices.{Kept}
+use Rattle.block.proofs.Plays.{one_most, Keeps, kept_by}
 use Rattle.nes_triangle.specs.declared.State.{State}
 use Rattle.nes_triangle.specs.declared.depth.Depth.{Depth}
-use Rattle.nes_triangle.specs.declared.sample.Sampled.{Sampled}
+use Rattle.block.specs.declared.sample.Sample.{Sample}
 use Rattle.nes_triangle.specs.Depth.{depth_of}
 use Rattle.nes_triangle.specs.Sample.{stepped_of, finish, sample_of, sample_at}
 use Rattle.nes_triangle.specs.Block.{rooms}
@@ -21,7 +22,7 @@ use Rattle.nes_triangle.specs.Private.{Below, Ready, Passed}
 use Rattle.nes_triangle.proofs.Stepping.{step_law}
 
 -- what one sample does to a phase of a units with a step of b, and to all else
-pub record Law (bits : ℕ) (frequency : Float) (a b : ℕ) (t : Sampled) : Type 0 where
+pub record Law (bits : ℕ) (frequency : Float) (a b : ℕ) (t : Sample State) : Type 0 where
   pub phase : Step t.state.phase t.counts.cycles a b cycle tick cycle
   pub step : Below t.state.step (2 ^ bits)
   pub stored : t.state.frequency ≡ frequency
@@ -72,3 +73,11 @@ keeps bits s steps x v i =
       };
       few = record { cycles = l.phase.once; rises = omega (arith, l.rises); falls = omega (arith, l.falls); cuts = omega (arith, l.cuts) };
     }
+
+-- the same where the depth and the step are at hand under names of their own
+module _ {bits : ℕ} {s : State} {steps : List Float} {d : Depth} {f : Float} (at-d : d ≡ depth_of bits) (at-f : f ≡ get_or steps 0 zero32) where
+  pub ready_at : Passed bits s → Inside rooms steps → Ready d s f
+  ready_at v i = rw (at-d, at-f) (law_of bits s steps v i).0
+
+  pub kept_at : {t : Sample State} → Passed bits s → Inside rooms steps → t ≡ sample_of d s f → Kept (Passed bits) t
+  kept_at {t = t} v i at-t = kept_by (keeps bits) {x = zero32} v i {t = t} (rw (at-t, at-d, at-f))

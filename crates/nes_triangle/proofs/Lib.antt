@@ -5,7 +5,6 @@ pub mod Silent
 pub mod Reaching
 pub mod Keeping
 pub mod Held
-pub mod Playing
 pub mod Calls
 pub mod Courses
 pub mod Phase

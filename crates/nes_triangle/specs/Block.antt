@@ -1,6 +1,6 @@
 -- The NES triangle as an oscillator of `block`: nes_triangle_oscillator.rs, lines 34 to 141, with 01's checks before it. Assumes nothing.
 use Rattle.block.specs.Checks.{◌unless◌}
-use Rattle.std.specs.Prelude.{ℕ, ◌^◌, Bool, false, List, [], ◌∷◌, length, ℤ, pos, negsuc, nat_lt, Float}
+use Rattle.std.specs.Prelude.{ℕ, ◌^◌, Bool, false, List, [], ◌∷◌, length, ℤ, pos, negsuc, nat_lt, Float, Result}
 use Rattle.floats.specs.F32.{max_frequency}
 use Rattle.floats.specs.Helpers.{min_of}
 use Rattle.parameter_interpolator.specs.declared.ParameterInterpolator.{ParameterInterpolator}
@@ -8,10 +8,11 @@ use Rattle.parameter_interpolator.specs.Interpolator.{new_interpolator}
 use Rattle.rooms.specs.declared.Room.{Room}
 use Rattle.rooms.specs.declared.Room.TheVariants.{Frequency}
 use Rattle.ranges.specs.Ranges.{phase_in, frequency_in, parameter_frequency_in, all_of}
+use Rattle.block.specs.declared.Counts.{Counts}
+use Rattle.block.specs.declared.refusal.Refusal.{Refusal}
 use Rattle.block.specs.Calls.{Call, gave}
 use Rattle.block.specs.Oscillator.{Oscillator, call_of}
 use Rattle.nes_triangle.specs.declared.State.{State}
-use Rattle.nes_triangle.specs.declared.Rendered.{Rendered}
 use Rattle.nes_triangle.specs.Depth.{bits_in, tested_bits}
 use Rattle.nes_triangle.specs.Sample.{sample_at}
 
@@ -64,6 +65,6 @@ nes_triangle = record {
 abbrev pub render_of : State → Float → ℕ → List Float → Call State
 render_of s frequency bits xs = call_of nes_triangle s (record { frequency = frequency; bits = bits; buffer = xs })
 
--- what a call returned and left in the buffer, in 01's numbers
-abbrev pub as_call : Rendered → List Float → Call State
-as_call r xs = gave r.answer r.state r.counts xs
+-- what a call returned, and left in the state and in the buffer, in 01's numbers
+abbrev pub as_call : Result Counts Refusal → State → List Float → Call State
+as_call = gave

@@ -1,25 +1,24 @@
 -- What the crate's own functions ask of each other. No public contract cites it, and a reader need not believe it.
 -- A tick is 2^-24: 4456448 ticks are 17/64. Assumes nothing.
-use Rattle.std.specs.Prelude.{◌≡◌, ℕ, ◌*◌, ◌^◌, ◌<◌, ◌≤◌, Bool, true, not, ◌&&◌, ◌||◌, List, [], ◌∷◌, ℤ, pos, nat_le, Float}
+use Rattle.std.specs.Prelude.{◌≡◌, ℕ, ◌*◌, ◌^◌, ◌<◌, ◌≤◌, Bool, true, not, ◌&&◌, ◌||◌, List, [], ◌∷◌, ℤ, pos, nat_le, unsigned_abs, Float}
 use Rattle.std.specs.Float.Ieee.{le}
-use Rattle.floats.specs.F32.{◌⊗◌, half32, four32, max_frequency}
+use Rattle.floats.specs.F32.{whole32, ◌⊗◌, half32, four32, max_frequency}
 use Rattle.floats.specs.Helpers.{min_of}
 use Rattle.floats.proofs.Ticks.{tick, cycle}
 use Rattle.floats.proofs.Ranges.{Under, Positive}
-use Rattle.block.specs.declared.Answer.{Answer}
-use Rattle.block.specs.Counting.{no_counts, one_if}
+use Rattle.block.specs.Counting.{one_if}
 use Rattle.ranges.specs.Ranges.{frequency_in}
 use Rattle.rooms.specs.declared.Room.TheVariants.{Frequency}
 use Rattle.rooms.proofs.Guard.{Course}
 use Rattle.nes_triangle.specs.declared.State.{State}
-use Rattle.nes_triangle.specs.declared.Rendered.{Rendered}
 use Rattle.nes_triangle.specs.declared.depth.Depth.{Depth}
+use Rattle.nes_triangle.specs.declared.quiet.Held.{Held}
 use Rattle.nes_triangle.specs.declared.sample.Stepped.{Stepped}
 use Rattle.nes_triangle.specs.declared.step.Reached.{Reached}
 use Rattle.nes_triangle.specs.declared.sample.Gains.{Gains}
 use Rattle.nes_triangle.specs.declared.sample.Samples.{Samples}
 use Rattle.nes_triangle.specs.Depth.{depth_of}
-use Rattle.nes_triangle.specs.Sample.{wrap_phase, wrap_step, stepped_of, step_sign, edge_of, trough_of, sound_of}
+use Rattle.nes_triangle.specs.Sample.{wrap_phase, wrap_step, stepped_of, step_sign, edge_of, trough_of, sound_of, nes_level}
 
 -- z is a whole number from 0 up and below m
 pub record Below (z : ℤ) (m : ℕ) : Type 0 where
@@ -55,8 +54,9 @@ pub record Passed (bits : ℕ) (s : State) : Type 0 where
 abbrev pub courses : State → Float → List Course
 courses s frequency = record { room = Frequency; value = s.frequency; target = min_of frequency max_frequency } ∷ []
 
-abbrev pub refused : Answer → State → Rendered
-refused answer s = record { answer = answer; state = s; counts = no_counts }
+-- h holds the step of s, and its level
+abbrev pub Holds : Depth → State → Held → Type 0
+Holds d s h = (h.at ≡ whole32 (unsigned_abs s.step)) × (h.level ≡ whole32 (nes_level (unsigned_abs s.step) d.half d.top))
 
 -- what a sample has come to, from where its step leads, the samples with their discontinuities, and whether it still ascended after the peak
 unfoldable pub reached_of : Stepped → Samples → Bool → Reached

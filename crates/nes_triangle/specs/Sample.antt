@@ -7,13 +7,12 @@ use Rattle.floats.specs.Helpers.{clamp_of}
 use Rattle.polyblep.specs.Polyblep.{this_blep_sample, next_blep_sample, this_integrated_blep_sample, next_integrated_blep_sample}
 use Rattle.whole_part.specs.WholePart.{whole_part, is_whole}
 use Rattle.block.specs.Counting.{one_if}
-use Rattle.block.specs.Play.{Sample}
+use Rattle.block.specs.declared.sample.Sample.{Sample}
 use Rattle.nes_triangle.specs.declared.State.{State}
 use Rattle.nes_triangle.specs.declared.depth.Depth.{Depth}
 use Rattle.nes_triangle.specs.declared.sample.Stepped.{Stepped}
 use Rattle.nes_triangle.specs.declared.sample.Gains.{Gains}
 use Rattle.nes_triangle.specs.declared.sample.Samples.{Samples}
-use Rattle.nes_triangle.specs.declared.sample.Sampled.{Sampled}
 use Rattle.nes_triangle.specs.Depth.{depth_of}
 
 -- line 84
@@ -115,7 +114,7 @@ tri_level phase = cond (lt phase half32) (two32 ⊗ phase) (two32 ⊖ two32 ⊗ 
 -- Lines 119 to 140: line 140 stores what the next sample starts with. The triangle ascends again from a wrap on (line 115), and no longer from
 -- its top on (line 75). The source stores the frequency as it drops its interpolator, and what it stores is the last step. 01 counts a wrap as
 -- a cycle, and a rise where the whole part, taken before any wrap, differs from the old step.
-unfoldable pub finish : Depth → State → Stepped → Gains → Samples → Float → Sampled
+unfoldable pub finish : Depth → State → Stepped → Gains → Samples → Float → Sample State
 finish d s t g x frequency = record {
   state = record {
     phase = t.phase;
@@ -129,7 +128,7 @@ finish d s t g x frequency = record {
 }
 
 -- one sample, lines 54 to 140
-unfoldable pub sample_of : Depth → State → Float → Sampled
+unfoldable pub sample_of : Depth → State → Float → Sample State
 sample_of d s frequency =
     let t = stepped_of d s frequency in
     let g = gains_of d frequency in

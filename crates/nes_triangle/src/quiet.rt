@@ -1,14 +1,15 @@
 // A sample with neither a peak nor a new step. At a low pitch most samples are such, and this is their short way: the step's level is held from sample to
 // sample, and two tests of floats tell that the step is still the same.
-ghost use Rattle.std.specs.Prelude.{◌≡◌, ◌+◌, ◌<◌, true, not, ◌&&◌, unsigned_abs};
+ghost use Rattle.std.specs.Prelude.{◌≡◌, ◌+◌, ◌<◌, true, not, ◌&&◌};
 ghost use Rattle.std.specs.Float.Ieee.{le, lt};
-ghost use Rattle.floats.specs.F32.{whole32, ◌⊕◌, ◌⊗◌, half32, one32};
-ghost use Rattle.nes_triangle.specs.Sample.{nes_level, sample_of};
-ghost use Rattle.nes_triangle.specs.Private.{Below, Ready};
+ghost use Rattle.floats.specs.F32.{◌⊕◌, ◌⊗◌, half32, one32};
+ghost use Rattle.block.specs.Counting.{no_counts};
+ghost use Rattle.nes_triangle.specs.Sample.{sample_of};
+ghost use Rattle.nes_triangle.specs.Private.{Below, Ready, Holds};
 
 use crate::depth::Depth;
-use crate::sample::Sampled;
 use crate::{State, sample, step};
+use block::Sample;
 
 // A state's step and the level that it has, each as a float.
 #[derive(Clone, Copy)]
@@ -17,10 +18,11 @@ pub struct Held {
     pub level: f32,
 }
 
-// Both are worked out anew only after a sample that may have changed the step.
+// Both are worked out anew only after a sample that may have changed the step. Depth, state and frequency are the block's, the last sample's and this one's: they
+// travel together, and no further than through these functions.
 pub(crate) fn hold(d: Depth, s: State) -> Held
     requires { Below s.step (d.top + 1) × (d.top < 65536) }
-    ensures { (result.at ≡ whole32 (unsigned_abs s.step)) × (result.level ≡ whole32 (nes_level (unsigned_abs s.step) d.half d.top)) }
+    ensures { Holds d s result }
 {
     let step = s.step as u32;
     Held {
@@ -39,16 +41,17 @@ pub(crate) fn is_quiet(d: Depth, s: State, h: Held, frequency: f32) -> bool
 }
 
 // The sample, under that test: the phase moves on, and both triangles are read there. Nothing is counted.
-pub(crate) fn sample(d: Depth, s: State, h: Held, frequency: f32) -> Sampled
+pub(crate) fn sample(d: Depth, s: State, h: Held, frequency: f32) -> Sample<State>
     requires ready { Ready d s frequency }
-    requires held_of_step { (h.at ≡ whole32 (unsigned_abs s.step)) × (h.level ≡ whole32 (nes_level (unsigned_abs s.step) d.half d.top)) }
+    requires held_of_step { Holds d s h }
     requires step_stays { (le h.at ((s.phase ⊕ frequency) ⊗ d.num_steps_f) && lt ((s.phase ⊕ frequency) ⊗ d.num_steps_f) (h.at ⊕ one32) && not (s.ascending && le half32 (s.phase ⊕ frequency))) ≡ true }
-    ensures { result ≡ sample_of d s frequency }
+    ensures made { result ≡ sample_of d s frequency }
+    ensures counts { result.counts ≡ no_counts }
 {
     let phase = s.phase + frequency;
     let g = sample::fade(d, frequency);
     let next_sample = 0.0 + g.nes_gain * h.level + g.tri_gain * sample::tri_level(phase);
-    Sampled {
+    Sample {
         state: State {
             phase,
             next_sample,

@@ -1,5 +1,6 @@
 // One sample of the NES triangle, in the source's order. A new step is a whole part and no difference of steps goes below zero, so that the
-// source's signed arithmetic is done in unsigned numbers.
+// source's signed arithmetic is done in unsigned numbers. What goes from line to line are `Samples` and `Stepped`; beside them a function takes those of
+// the source's variables that its lines read. `Ready` is of depth, state and frequency together, and so no invariant of one of them.
 ghost use Rattle.std.specs.Prelude.{◌≡◌, ◌<◌, ◌≤◌, not, ◌&&◌};
 ghost use Rattle.std.specs.Float.Ieee.{le};
 ghost use Rattle.floats.specs.F32.{half32};
@@ -10,15 +11,7 @@ ghost use Rattle.nes_triangle.specs.Private.{Ready, reached_of, reach_of};
 use crate::depth::Depth;
 use crate::step::Reached;
 use crate::{State, step};
-use block::Counts;
-
-// A sample, and what it leaves behind: the state for the next one, and what 01 counts.
-#[derive(Clone, Copy)]
-pub struct Sampled {
-    pub sample: f32,
-    pub state: State,
-    pub counts: Counts,
-}
+use block::{Counts, Sample};
 
 // This sample, and what the next one starts with.
 #[derive(Clone, Copy)]
@@ -45,6 +38,7 @@ pub struct Gains {
 }
 
 // Whether the whole part is still the state's step: line 80. The cast is safe, since a whole part is 131,072 at most.
+// The string has this line for its segment: a function for both would be longer, by its contract.
 fn on_step(s: State, whole: u32) -> bool
     requires { whole ≤ 131072 }
     ensures { result ≡ is_whole whole s.step }
@@ -129,14 +123,14 @@ pub(crate) fn tri_level(phase: f32) -> f32
 }
 
 // The end of a sample, lines 119 to 140, of whichever state and turn it came from.
-fn finish(d: Depth, g: Gains, e: Reached, frequency: f32) -> Sampled
+fn finish(d: Depth, g: Gains, e: Reached, frequency: f32) -> Sample<State>
     requires { (e.step ≤ d.top) × (d.top < 65536) }
     ensures { (s : State) (t : Stepped) (x : Samples) → e ≡ reached_of t x (s.ascending && not (le half32 t.reached)) → result ≡ finished d s t g x frequency }
 {
     let x = e.samples;
     let level = step::small(nes_level(e.step, d.half, d.top));
     let next_sample = x.next_sample + g.nes_gain * level + g.tri_gain * tri_level(e.phase);
-    Sampled {
+    Sample {
         state: State {
             phase: e.phase,
             next_sample,
@@ -157,7 +151,7 @@ fn finish(d: Depth, g: Gains, e: Reached, frequency: f32) -> Sampled
 }
 
 // Lines 54 to 140. The state is in its range, or one wrap might not be enough and `top - step` go below zero.
-pub(crate) fn sample(d: Depth, s: State, frequency: f32) -> Sampled
+pub(crate) fn sample(d: Depth, s: State, frequency: f32) -> Sample<State>
     requires { Ready d s frequency }
     ensures { result ≡ sample_of d s frequency }
 {

@@ -18,7 +18,8 @@ pub struct Reached {
     pub rises: u32,
 }
 
-// A step or a level as a float: so small a number goes through 16 bits, of which every value is a float.
+// A step or a level as a float: so small a number goes through 16 bits, of which every value is a float. That steps are so small stands in the clauses of
+// those that come here, as the proof of each finds it: a type for it would be opened again at each difference and each comparison.
 pub(crate) fn small(n: u32) -> f32
     requires { n < 65536 }
     ensures { result ≡ whole32 n }
@@ -78,7 +79,8 @@ fn jump(d: Depth, g: Gains, x: Samples, t: Stepped, frequency: f32) -> Samples
     }
 }
 
-// The corner at the bottom of the naive triangle, lines 108 to 114: it turns up again, so that what `peak` takes off is added.
+// The corner at the bottom of the naive triangle, lines 108 to 114: it turns up again, so that what `peak` takes off is added. The two differ in the time
+// and in the sign: one function would take both from its caller, and be no plainer.
 fn trough(x: Samples, here: bool, phase: f32, frequency: f32, discontinuity: f32) -> Samples
     ensures { result ≡ trough_of here phase frequency discontinuity x }
 {

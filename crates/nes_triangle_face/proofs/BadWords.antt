@@ -7,10 +7,11 @@ use Prim.Native.Nat.{ℕ, ◌≤◌}
 use lib.ListN.{get_or}
 use lib.Ieee.{Float}
 use borrow.Author.Tests.{le-ltb}
+use Rattle.floats.proofs.Bools.{cond_both}
 use Rattle.ranges.specs.Ranges.{phase_in, frequency_in, all_of}
 use Rattle.nes_triangle.specs.Block.{state_in, nes_triangle}
 use Rattle.words.specs.Face.{Face, no_bool, no_state}
-use Rattle.words.proofs.Faces.{bad_state_face, either_way}
+use Rattle.words.proofs.Faces.{bad_state_face}
 use Rattle.nes_triangle_face.specs.Words.{state_of, words_of, render_face}
 
 outside : (w : List ℕ) (bits : ℕ) → 0x8000_0000 ≤ get_or w 2 0 → state_in (state_of w) bits ≡ false
@@ -24,4 +25,4 @@ outside w bits h = rw (le-ltb _ 0x8000_0000 h) (go (phase_in (state_of w).phase)
 
 pub negative_step : (w : List ℕ) (frequency : Float) (bits : ℕ) (xs : List Float) → 0x8000_0000 ≤ get_or w 2 0 → render_face w frequency bits xs ≡ no_state w xs
 negative_step w frequency bits xs h =
-    either_way (λ (f : Face). f ≡ no_state w xs) (no_bool (get_or w 3 0)) refl (bad_state_face nes_triangle words_of w (state_of w) _ refl (outside w bits h))
+    cond_both (λ (f : Face). f ≡ no_state w xs) (no_bool (get_or w 3 0)) _ _ refl (bad_state_face nes_triangle words_of w (state_of w) _ refl (outside w bits h))

@@ -1,11 +1,14 @@
 // The NES triangle over lent arrays of 32-bit words, for the face.
 #![tactic(auto)]
 
-ghost use Rattle.std.specs.Prelude.{◌≡◌, cond};
+ghost use Rattle.std.specs.Prelude.{◌≡◌, cond, Some, None, get_or};
+ghost use Rattle.words.specs.Face.{no_bool};
 ghost use Rattle.nes_triangle_face.specs.Words.{state_of, words_of, init_words, render_face};
 
-use nes_triangle::State;
+use nes_triangle::{Parameters, State};
+use words::Words;
 
+// Fields and words in the header's order, and answers by number: the C interface has them so, of each oscillator for itself.
 // Any words are read. Whether the one for `ascending` stands for a bool is asked before.
 fn state_of(w: [u32; 5]) -> State
     ensures { result ≡ state_of w }
@@ -32,12 +35,32 @@ fn words_of(s: State) -> [u32; 5]
     ]
 }
 
-// Words that are not stored stay bit by bit, a NaN in them too.
-fn store(words: &mut [u32; 5], stored: bool, after: [u32; 5])
-    ensures { words.new ≡ cond stored after words.old }
-{
-    if stored {
-        *words = after;
+// The words in the order of the fields.
+struct InOrder;
+
+impl Words<5> for InOrder {
+    type State = State;
+
+    ghost state_of = { state_of };
+
+    ghost words_of = { words_of };
+
+    ghost is_no_state = { λ w. no_bool (get_or w 3 0) };
+
+    fn read(w: [u32; 5]) -> Option<State>
+        ensures { result ≡ cond (no_bool (get_or w 3 0)) None (Some (state_of w)) }
+    {
+        if words::no_bool(w[3]) {
+            None
+        } else {
+            Some(state_of(w))
+        }
+    }
+
+    fn write(s: State) -> [u32; 5]
+        ensures { result ≡ words_of s }
+    {
+        words_of(s)
     }
 }
 
@@ -58,15 +81,9 @@ pub fn render(
 ) -> u32
     ensures { record { answer = result; words = words.new; result = res.new; samples = out.new } ≡ render_face words.old frequency num_bits out.old }
 {
-    if words::no_bool(words[3]) {
-        *res = words::no_state(out.len());
-        return res[0];
-    }
-    let r = nes_triangle::render(state_of(*words), frequency, num_bits, out);
-    let answer = r.answer;
-    let counts = r.counts;
-    let state = r.state;
-    *res = words::result_of(answer, counts);
-    store(words, words::stores(answer, out.len()), words_of(state));
-    res[0]
+    let parameters = Parameters {
+        frequency,
+        num_bits,
+    };
+    words::render::<InOrder, _, _>(words, parameters, out, res)
 }

@@ -1,5 +1,5 @@
 -- The digits that `io::decimal` writes are the definition's, and are at most ten. Assumes nothing.
-use mathlib.Core.Path.{◌≡◌, ap}
+use mathlib.Core.Path.{◌≡◌}
 use mathlib.Core.Bool.{Bool, true, false, cond}
 use mathlib.Core.List.{List, [], ◌∷◌, ◌++◌}
 use Prim.Native.Nat.{ℕ, zero, suc, ◌+◌, ◌/◌, ◌%◌, ◌^◌, ◌≤◌, ◌<◌, ◌-◌}
@@ -7,11 +7,9 @@ use native.Mathlib.Nat.{mod-eq_of_lt, mod-lt, pow-suc, div-lt_iff_lt-mul, le-div
 use native.Mathlib.Omega.{arith}
 use borrow.Author.Tests.{lt-ltb, le-ltb}
 use lib.Dec.{ltb, lit<}
-use lib.ListN.{length, set, length-append}
+use lib.ListN.{length, length-append}
 use Rattle.io.specs.Digits.{hex_digit_ascii, last_digits, IsDigitCount}
-use Rattle.render.specs.Line.{spelled, decimal_of, number_then}
-use Rattle.render.specs.Private.{Wrote}
-use Rattle.render.proofs.Laying.{joins, puts_one}
+use Rattle.render.specs.Line.{spelled, decimal_of}
 
 pow_pos : (k : ℕ) → 0 < 10 ^ k
 pow_pos zero = lit< tt
@@ -57,18 +55,6 @@ pub decimal_long : (n : ℕ) → length (decimal_of n) ≤ 10
 unfolding decimal_of
 decimal_long n = spelled_long 10 n
 
--- the text of a number that another is equal to
-pub as_equal : (after : ℕ) {n m : ℕ} (q : n ≡ m) {d : List ℕ} {at e : ℕ} {d' : List ℕ} → Wrote d at (number_then n after) e d' → Wrote d at (number_then m after) e d'
-as_equal after q w = rw (← q) w
-
--- a number's text, and then the byte after it
-module _ (d : List ℕ) (at n b : ℕ) (t : List ℕ) (e : ℕ) (d' : List ℕ) (w : Wrote d at t e d') (q : t ≡ decimal_of n) (h : at + 11 ≤ length d) where
-  short : e ≤ at + 10
-  short = omega (arith, w.next, ap length q, decimal_long n)
-
-  pub number_room : e < length d'
-  number_room = omega (arith, short, w.long)
-
-  pub number_wrote : Wrote d at (number_then n b) (e + 1) (set d' e b) × (e + 1 ≤ at + 11)
-  unfolding number_then
-  number_wrote = (joins (rw q at w) (puts_one d' e b number_room), omega (arith, short))
+-- a text to which a number was written
+pub ten_more : {text : List ℕ} (before : List ℕ) (n : ℕ) → text ≡ before ++ decimal_of n → length text ≤ length before + 10
+ten_more before n h = rw h (simp length-append (omega (arith, decimal_long n)))

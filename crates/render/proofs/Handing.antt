@@ -2,25 +2,22 @@
 use mathlib.Core.Path.{◌≡◌, refl, ap, subst, ◌∙◌}
 use mathlib.Core.Bool.{Bool, true, false, cond}
 use mathlib.Core.List.{List, [], ◌∷◌, ◌++◌}
-use Prim.Native.Nat.{ℕ, suc, ◌*◌, ◌/◌, ◌%◌, ◌≤◌, ◌<◌}
-use native.Mathlib.Nat.{zero-add}
+use Prim.Native.Nat.{ℕ, suc, ◌*◌, ◌/◌, ◌%◌, ◌≤◌}
 use native.Mathlib.Omega.{arith}
-use borrow.Author.Tests.{le-leb, lt-leb, eq-eqb, leb-true}
+use borrow.Author.Tests.{le-leb, eq-eqb, leb-true}
 use lib.Dec.{leb}
 use lib.ListN.{length, take, drop, length-append}
 use lib.Seq.{take_at}
 use Rattle.floats.proofs.Bools.{and_both}
-use Rattle.block.specs.declared.Answer.{Answer}
-use Rattle.block.specs.declared.Answer.TheVariants.{BadInput}
-use Rattle.block.specs.Answers.{number_of as answer_number}
+use Rattle.std.specs.Prelude.{Result}
+use Rattle.block.specs.declared.refusal.Refusal.{Refusal}
+use Rattle.block.specs.declared.refusal.Refusal.TheVariants.{BadInput}
+use Rattle.block.specs.Answers.{refusal_number, number_of as answer_number}
 use Rattle.block.specs.Counting.{told}
-use Rattle.bank.specs.declared.Outcome.{Outcome}
-use Rattle.bank.specs.Bank.{init_bank}
+use Rattle.bank.specs.Bank.{Outcome, init_bank}
 use Rattle.render.specs.declared.Written.{Written}
-use Rattle.render.specs.declared.Written.TheVariants.{NoRoom}
 use Rattle.render.specs.Line.{number_then, line_of}
 use Rattle.render.specs.Lists.{records_from, run_of, numbered, lines_of, is_job_list, text_of, answer_if, Handed, written, render_of, count_of, handed_back, new_lines}
-use Rattle.render.specs.Private.{laid, Wrote, fitted_of}
 use Rattle.render.proofs.Digits.{decimal_long}
 use Rattle.render.proofs.Lists.{as_many, how_many, lines_as_many}
 
@@ -30,7 +27,7 @@ module _ (list : List ℕ) where
   unfolding text_of
   good_list h = rw h
 
-  pub bad_list : is_job_list list ≡ false → text_of list ≡ number_then (answer_number BadInput) 10
+  pub bad_list : is_job_list list ≡ false → text_of list ≡ number_then (refusal_number BadInput) 10
   unfolding text_of line_of
   bad_list h = rw h
 
@@ -38,21 +35,8 @@ module _ (list : List ℕ) where
   pub few_records : is_job_list list ≡ true → length list ≤ 65536
   few_records h = leb-true (length list) 65536 (and_both _ _ h).0
 
-module _ (good : Bool) (text d : List ℕ) where
-  pub handed : (r : ℕ) (d' : List ℕ) → length text ≤ length d → Wrote d 0 text r d' → handed_back (fitted_of good r) d' ≡ written (answer_if good) text d
-  unfolding laid written
-  handed r d' h w = rw (le-leb (length text) (length d) h, w.next, w.same, zero-add) (by_answer good)
-    where
-      by_answer : (t : Bool) → handed_back (fitted_of t (length text)) (text ++ drop (length text) d) ≡ record { number = answer_number (answer_if t); count = length text; buffer = text ++ drop (length text) d }
-      by_answer true = refl
-      by_answer false = refl
-
-  pub not_handed : length d < length text → handed_back NoRoom d ≡ written (answer_if good) text d
-  unfolding written
-  not_handed h = rw (lt-leb (length text) (length d) h)
-
 -- what a caller may read of the buffer afterwards
-pub inside : (r : Written) (d' : List ℕ) (answer : Answer) (text d : List ℕ) → handed_back r d' ≡ written answer text d → count_of r ≤ length d'
+pub inside : (r : Written) (d' : List ℕ) (answer : Result (Unit {0}) Refusal) (text d : List ℕ) → handed_back r d' ≡ written answer text d → count_of r ≤ length d'
 unfolding written
 inside r d' answer text d = go (leb (length text) (length d))
   where
@@ -62,7 +46,7 @@ inside r d' answer text d = go (leb (length text) (length d))
     go false h = omega (arith, ap (λ (x : Handed). x.count) h)
 
 -- ---- the longest text
-number_long : (n after : ℕ) → length (number_then n after) ≤ 11
+pub number_long : (n after : ℕ) → length (number_then n after) ≤ 11
 unfolding number_then
 number_long n after = simp length-append (omega (arith, decimal_long n))
 
@@ -84,7 +68,7 @@ text_long list = go (is_job_list list) refl
   where
     go : (t : Bool) → is_job_list list ≡ t → length (text_of list) ≤ 90112
     go true h = rw (good_list list h) (omega (arith, few_records list h, lines_long (records_from list 0 (length list / 64)), how_many list 0 (length list / 64)))
-    go false h = rw (bad_list list h) (omega (arith, number_long (answer_number BadInput) 10))
+    go false h = rw (bad_list list h) (omega (arith, number_long (refusal_number BadInput) 10))
 
 -- a buffer of the size that the library names is never too short: the number is 8 for a malformed list, and 0 for every other
 pub always_room : (list d : List ℕ) → 90112 ≤ length d → (render_of list d).number ≡ answer_number (answer_if (is_job_list list))

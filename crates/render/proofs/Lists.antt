@@ -10,9 +10,8 @@ use lib.Dec.{eqb, ltb}
 use lib.ListN.{length, take}
 use Rattle.block.specs.Counting.{one_if, told}
 use Rattle.bank.specs.declared.Bank.{Bank}
-use Rattle.bank.specs.declared.Outcome.{Outcome}
 use Rattle.render.specs.Line.{spelled, decimal_of, number_then, line_of, record_line}
-use Rattle.bank.specs.Bank.{init_bank, record_played}
+use Rattle.bank.specs.Bank.{Outcome, init_bank, record_played}
 use Rattle.render.specs.Lists.{records_from, run_of, numbered, lines_of, bank_after, new_lines}
 use Rattle.bank.proofs.Refused.{record_kept}
 

@@ -1,7 +1,7 @@
 -- A line of the renderer: numbers in decimal. Assumes nothing.
 use Rattle.std.specs.Prelude.{cond, List, [], ◌∷◌, ◌++◌, ℕ, zero, suc, ◌+◌, ◌/◌, ◌%◌, ltb}
 use Rattle.block.specs.Counting.{told}
-use Rattle.bank.specs.declared.Outcome.{Outcome}
+use Rattle.bank.specs.Bank.{Outcome}
 
 -- the last f digits of n, the most significant first, and no zero before them; in ASCII the digit 0 is 48
 unfoldable pub spelled : ℕ → ℕ → List ℕ

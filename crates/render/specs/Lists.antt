@@ -1,16 +1,15 @@
 -- The whole text of a job list, and how it is handed over. Assumes nothing.
-use Rattle.std.specs.Prelude.{Bool, ◌&&◌, cond, List, [], ◌∷◌, ◌++◌, ℕ, zero, suc, ◌+◌, ◌/◌, ◌%◌, leb, eqb, length, drop}
-use Rattle.block.specs.declared.Answer.{Answer}
-use Rattle.block.specs.declared.Answer.TheVariants.{Done, BadInput}
-use Rattle.block.specs.Answers.{number_of as answer_number}
+use Rattle.std.specs.Prelude.{Bool, ◌&&◌, cond, List, [], ◌∷◌, ◌++◌, ℕ, zero, suc, ◌+◌, ◌/◌, ◌%◌, leb, eqb, length, drop, Result, Ok, Err}
+use Rattle.block.specs.declared.refusal.Refusal.{Refusal}
+use Rattle.block.specs.declared.refusal.Refusal.TheVariants.{BadInput}
+use Rattle.block.specs.Answers.{refusal_number, number_of as answer_number}
 use Rattle.block.specs.Counting.{one_if}
 use Rattle.jobs.specs.Words.{record_of}
 use Rattle.bank.specs.declared.Bank.{Bank}
-use Rattle.bank.specs.declared.Outcome.{Outcome}
 use Rattle.render.specs.declared.Written.{Written}
 use Rattle.render.specs.declared.Written.TheVariants.{Text, BadInput as Malformed, NoRoom}
 use Rattle.render.specs.Line.{line_of, record_line}
-use Rattle.bank.specs.Bank.{init_bank, record_played}
+use Rattle.bank.specs.Bank.{Outcome, init_bank, record_played}
 
 -- n records of a list, from record k on
 unfoldable pub records_from : List ℕ → ℕ → ℕ → List (List ℕ)
@@ -40,11 +39,11 @@ unfoldable pub text_of : List ℕ → List ℕ
 text_of list =
     cond (is_job_list list)
     (lines_of (records_from list 0 (length list / 64)))
-    (line_of (answer_number BadInput ∷ []))
+    (line_of (refusal_number BadInput ∷ []))
 
 -- the renderer's answer to an input: each record's own stands in its line
-abbrev pub answer_if : Bool → Answer
-answer_if good = cond good Done BadInput
+abbrev pub answer_if : Bool → Result (Unit {0}) Refusal
+answer_if good = cond good (Ok tt) (Err BadInput)
 
 -- what is returned and stands in the buffer afterwards: the number, how many bytes were written, and the buffer
 pub record Handed : Type 0 where
@@ -54,7 +53,7 @@ pub record Handed : Type 0 where
 
 -- A text goes to the buffer's front, and what lies past it stays. Without room for all of it nothing is written, and the number is 9, NoRoom,
 -- which 01 leaves free.
-unfoldable pub written : Answer → List ℕ → List ℕ → Handed
+unfoldable pub written : Result (Unit {0}) Refusal → List ℕ → List ℕ → Handed
 written answer text d =
     cond (leb (length text) (length d))
     (record { number = answer_number answer; count = length text; buffer = text ++ drop (length text) d })
@@ -66,8 +65,8 @@ render_of list d = written (answer_if (is_job_list list)) (text_of list) d
 
 -- the same of what the function answered, by cases: its number, its count, and both beside the buffer
 abbrev pub number_of : Written → ℕ
-number_of (Text n) = answer_number Done
-number_of (Malformed n) = answer_number BadInput
+number_of (Text n) = 0
+number_of (Malformed n) = refusal_number BadInput
 number_of NoRoom = 9
 
 abbrev pub count_of : Written → ℕ

@@ -21,14 +21,7 @@ pub fn looks_like_text(bytes: &[u8]) -> bool
 fn all_text(bytes: &[u8]) -> bool
     ensures { result ≡ all_text bytes.now }
 {
-    let mut i = 0;
-    while i < bytes.len() {
-        if !is_text(bytes[i]) {
-            return false;
-        }
-        i += 1;
-    }
-    true
+    bytes.iter().all(|byte| is_text(*byte))
 }
 
 // From 32 on: printable, or a part of a letter that is none of ASCII; 127 is a control.

@@ -1,13 +1,14 @@
 // A job list becomes one line of text for each record, in a lent buffer.
 #![tactic(auto)]
 
-ghost use Rattle.std.specs.Prelude.{◌≡◌, ◌≤◌, length};
-ghost use Rattle.render.specs.Lists.{records_from, lines_of, text_of, answer_if, written, render_of, count_of, handed_back};
+ghost use Rattle.std.specs.Prelude.{◌≡◌, ◌/◌, length, IsTrue};
+ghost use Rattle.render.specs.Lists.{records_from, lines_of, is_job_list, text_of, answer_if, written, render_of, count_of, handed_back};
 ghost use Rattle.bank.specs.Bank.{record_played};
-ghost use Rattle.render.specs.Private.{Wrote, fitted_of, said_of};
+ghost use Rattle.render.specs.Private.{said_by, said_of};
 
-use bank::{Bank, Played};
-use block::Answer;
+use bank::Bank;
+use block::{Counts, Refusal};
+use text::Text;
 
 mod form;
 mod text;
@@ -18,6 +19,7 @@ pub use form::{is_job_list, looks_like_text};
 pub const ROOM: usize = 90112;
 
 // How many bytes were written: the lines of all records, or the one line of a malformed list. Or the text would not have fitted, and nothing was.
+// Three outcomes side by side: in a Result the malformed list's text would have to be an error, or a flag beside the count.
 #[derive(Clone, Copy)]
 pub enum Written {
     Text(usize),
@@ -30,8 +32,7 @@ pub fn count(written: Written) -> usize
     ensures { result ≡ count_of written }
 {
     match written {
-        Written::Text(n) => n,
-        Written::BadInput(n) => n,
+        Written::Text(n) | Written::BadInput(n) => n,
         Written::NoRoom => 0,
     }
 }
@@ -41,26 +42,19 @@ pub fn count(written: Written) -> usize
 pub fn render(list: &[u8], out: &mut [u8]) -> Written
     ensures { handed_back result out.new ≡ render_of list.now out.old }
 {
-    let mut whole = [0u8; ROOM];
-    let n = compose(list, &mut whole);
-    hand_over(is_job_list(list), &whole[0..n], out)
+    let text = compose(list);
+    hand_over(is_job_list(list), text.bytes.as_slice(), out)
 }
 
-// The text, where it fits.
-fn hand_over(good: bool, from: &[u8], out: &mut [u8]) -> Written
-    ensures { handed_back result out.new ≡ written (answer_if good) from.now out.old }
+// The text of a good list or of a malformed one, where it fits.
+fn hand_over(good: bool, text: &[u8], out: &mut [u8]) -> Written
+    ensures { handed_back result out.new ≡ written (answer_if good) text.now out.old }
 {
-    if from.len() <= out.len() {
-        fitted(good, text::append(out, 0, from))
-    } else {
-        Written::NoRoom
+    let n = text.len();
+    if n > out.len() {
+        return Written::NoRoom;
     }
-}
-
-// A text of n bytes that was written, as the answer to a good list or to a malformed one.
-fn fitted(good: bool, n: usize) -> Written
-    ensures { result ≡ fitted_of good n }
-{
+    out[..n].copy_from_slice(text);
     if good {
         Written::Text(n)
     } else {
@@ -68,38 +62,34 @@ fn fitted(good: bool, n: usize) -> Written
     }
 }
 
-// The text from the buffer's front on, and how long it is.
-fn compose(list: &[u8], out: &mut [u8]) -> usize
-    requires { 90112 ≤ length out.old }
-    ensures { Wrote out.old 0 (text_of list.now) result out.new }
+fn compose(list: &[u8]) -> Text
+    ensures { result.bytes.items ≡ text_of list.now }
 {
     if is_job_list(list) {
-        records(list, list.len() / 64, out)
-    } else {
-        text::number(out, 0, block::number(Answer::BadInput), b'\n')
+        return records(list);
     }
+    let mut text = Text::new();
+    text.number(Refusal::BadInput.number(), b'\n');
+    text
 }
 
-// The lines of the first n records. Each kind's state goes from record to record.
-fn records(list: &[u8], n: usize, out: &mut [u8]) -> usize
-    requires { (n ≤ 1024) × (90112 ≤ length out.old) }
-    ensures { Wrote out.old 0 (lines_of (records_from list.now 0 n)) result out.new }
+// The lines of every record. Each kind's state goes from record to record. By number, which is said in the line.
+fn records(list: &[u8]) -> Text
+    requires { IsTrue (is_job_list list.now) }
+    ensures { result.bytes.items ≡ lines_of (records_from list.now 0 (length list.now / 64)) }
 {
+    let mut text = Text::new();
     let mut bank = bank::start();
-    let mut at = 0;
-    let mut k = 0;
-    while k < n {
-        let r = play(bank, jobs::record(list, k));
-        bank = r.bank;
-        at = text::line(out, at, k as u32, r.outcome);
-        k += 1;
+    for k in 0..list.len() / 64 {
+        let answer = play(&mut bank, jobs::record(list, k));
+        text.line(k as u32, answer);
     }
-    at
+    text
 }
 
 // A line says nothing of the samples: they go to a buffer that no one reads, of a length that is always enough.
-fn play(bank: Bank, part: &[u8]) -> Played
-    ensures { result ≡ said_of (record_played bank part.now) }
+fn play(bank: &mut Bank, part: &[u8]) -> Result<Counts, Refusal>
+    ensures { said_by result bank.new ≡ said_of (record_played bank.old part.now) }
 {
     let mut unread = [0.0f32; 4096];
     bank::play(bank, part, &mut unread)

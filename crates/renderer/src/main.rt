@@ -6,17 +6,13 @@ ghost use Rattle.std.specs.Prelude.{◌≡◌, take};
 ghost use Rattle.io.specs.Counts.{IsPrefixLen};
 ghost use Rattle.render.specs.Lists.{text_of};
 
-use streams::Input;
-
 mod note;
 
 // An input that could not be read to its end is no list: nothing is written for it.
 fn main(rt: HostRuntime) {
     let mut list = [0u8; 65537];
-    let input = streams::read(rt, b"renderer", &mut list);
-    match input {
-        Input::Read(n) => answer(rt, &list[..n]),
-        Input::Failed => {}
+    if let Some(n) = streams::read(rt, b"renderer", &mut list) {
+        answer(rt, &list[..n]);
     }
 }
 

@@ -21,7 +21,7 @@ use Rattle.ranges.proofs.AllOf.{Each, each_of}
 use Rattle.ranges.proofs.TargetRanges.{least_target}
 use Rattle.rooms.specs.declared.Room.{Room}
 use Rattle.rooms.specs.declared.Room.TheVariants.{Unused, Frequency, StringFrequency, PulseWidth, Waveshape, ModulationOrGain}
-use Rattle.rooms.specs.declared.Found.TheVariants.{Nowhere}
+use Rattle.std.specs.Prelude.{None}
 use Rattle.rooms.specs.declared.Glides.{Glides}
 use Rattle.rooms.specs.Safe.{ratio, widest, safe_in}
 use Rattle.rooms.specs.Steps.{steps_of, first_outside}
@@ -94,5 +94,5 @@ all_stay : (n : ℕ) → n ≤ 4096 → (cs : List Course) → AllPresumed cs �
 all_stay n h [] p s = tt
 all_stay n h (c ∷ cs) p s = (kept n c.room c.value c.target h p.0 (safe_kept c.room c.value c.target p.0 s.0), all_stay n h cs p.1 s.1)
 
-pub safe_nowhere : (n : ℕ) → n ≤ 4096 → (cs : List Course) → AllPresumed cs → all_of (tests_of cs) ≡ true → first_outside (rooms_of cs) (steps_of n (starts_of n cs)) ≡ Nowhere
+pub safe_nowhere : (n : ℕ) → n ≤ 4096 → (cs : List Course) → AllPresumed cs → all_of (tests_of cs) ≡ true → first_outside (rooms_of cs) (steps_of n (starts_of n cs)) ≡ None
 safe_nowhere n h cs p s = nowhere n (rooms_of cs) (starts_of n cs) (all_stay n h cs p (each_of (tests_of cs) s))

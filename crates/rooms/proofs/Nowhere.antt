@@ -11,7 +11,7 @@ use Rattle.parameter_interpolator.specs.declared.ParameterInterpolator.{Paramete
 use Rattle.parameter_interpolator.specs.Interpolator.{next_interpolator}
 use Rattle.parameter_interpolator.proofs.Glide.{step_of}
 use Rattle.rooms.specs.declared.Room.{Room}
-use Rattle.rooms.specs.declared.Found.TheVariants.{Nowhere}
+use Rattle.std.specs.Prelude.{None}
 use Rattle.rooms.specs.Rooms.{in_room}
 use Rattle.rooms.specs.Steps.{moved, values, steps_of, all_in, first_outside}
 
@@ -37,7 +37,7 @@ one_sample n (r ∷ rs) (p ∷ ps) h =
     let l = one_sample n rs ps h.1 in
     (rw (h.0 1 (zero-lt-suc 0) (omega arith), l.0) refl, (λ k s m. rw (step_later k p) (h.0 (suc k) (zero-lt-suc k) (omega arith)), l.1))
 
-pub nowhere : (n : ℕ) (rs : List Room) (ps : List ParameterInterpolator) → AllStayIn n rs ps → first_outside rs (steps_of n ps) ≡ Nowhere
+pub nowhere : (n : ℕ) (rs : List Room) (ps : List ParameterInterpolator) → AllStayIn n rs ps → first_outside rs (steps_of n ps) ≡ None
 unfolding first_outside steps_of
 nowhere zero rs ps h = refl
 nowhere (suc n) rs ps h = let l = one_sample n rs ps h in rw (l.0, nowhere n rs (moved ps) l.1) refl

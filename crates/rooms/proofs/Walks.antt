@@ -12,8 +12,8 @@ use borrow.Author.Tests.{not-true, not-false}
 use Rattle.parameter_interpolator.specs.declared.ParameterInterpolator.{ParameterInterpolator}
 use Rattle.parameter_interpolator.specs.Interpolator.{next_interpolator}
 use Rattle.rooms.specs.declared.Room.{Room}
-use Rattle.rooms.specs.declared.Found.{Found}
-use Rattle.rooms.specs.declared.Found.TheVariants.{Outside, Nowhere}
+use Rattle.std.specs.Prelude.{Option}
+use Rattle.std.specs.Prelude.{Some, None}
 use Rattle.rooms.specs.Rooms.{in_room}
 use Rattle.rooms.specs.Steps.{moved, values, steps_of, all_in, later, first_outside}
 
@@ -84,10 +84,10 @@ module _ {m : ℕ} {rooms : List Room} {ps₀ : List ParameterInterpolator} wher
         let l : length (take m ps) ≤ k = omega (arith, long) in
         (v.same ∙ rw (take_all k (take m ps) l, drop_of_length-le (take m ps) l, append-nil), rw (take_all k (take m ps) l) at v.good)
 
--- `Found` moved on by i samples
-abbrev pub later_by : ℕ → Found → Found
-later_by i Nowhere = Nowhere
-later_by i (Outside k) = Outside (i + k)
+-- `Option ℕ` moved on by i samples
+abbrev pub later_by : ℕ → Option ℕ → Option ℕ
+later_by i None = None
+later_by i (Some k) = Some (i + k)
 
 -- i samples have passed, and what is left of the walk is the walk over the rest
 pub record Walked (rs : List Room) (n : ℕ) (ps₀ : List ParameterInterpolator) (i : ℕ) (ps : List ParameterInterpolator) : Type 0 where
@@ -95,25 +95,25 @@ pub record Walked (rs : List Room) (n : ℕ) (ps₀ : List ParameterInterpolator
   pub same : (m : ℕ) → i + m ≡ n → first_outside rs (steps_of n ps₀) ≡ later_by i (first_outside rs (steps_of m ps))
 
 module _ (rs : List Room) (n : ℕ) (ps₀ : List ParameterInterpolator) where
-  by_none : (f : Found) → f ≡ later_by 0 f
-  by_none Nowhere = refl
-  by_none (Outside k) = ap Outside (omega arith)
+  by_none : (f : Option ℕ) → f ≡ later_by 0 f
+  by_none None = refl
+  by_none (Some k) = ap Some (omega arith)
 
   pub walked_start : Walked rs n ps₀ 0 ps₀
   walked_start = record { most = omega arith; same = λ m h. let e : m ≡ n = omega arith in rw e (by_none _) }
 
   module _ (i : ℕ) (ps : List ParameterInterpolator) (w : Walked rs n ps₀ i ps) where
-    pub walked_end : n ≤ i → Nowhere ≡ first_outside rs (steps_of n ps₀)
+    pub walked_end : n ≤ i → None ≡ first_outside rs (steps_of n ps₀)
     unfolding first_outside steps_of
     walked_end h = sym (w.same 0 (omega (arith, w.most)))
 
-    pub walked_out : i < n → all_in rs (values (moved ps)) ≡ false → Outside i ≡ first_outside rs (steps_of n ps₀)
+    pub walked_out : i < n → all_in rs (values (moved ps)) ≡ false → Some i ≡ first_outside rs (steps_of n ps₀)
     unfolding first_outside steps_of
-    walked_out h l = sym (w.same (suc (n - suc i)) (omega arith) ∙ rw l (ap Outside (omega arith)))
+    walked_out h l = sym (w.same (suc (n - suc i)) (omega arith) ∙ rw l (ap Some (omega arith)))
 
-    by_one : (f : Found) → later_by i (later f) ≡ later_by (i + 1) f
-    by_one Nowhere = refl
-    by_one (Outside k) = ap Outside (omega arith)
+    by_one : (f : Option ℕ) → later_by i (later f) ≡ later_by (i + 1) f
+    by_one None = refl
+    by_one (Some k) = ap Some (omega arith)
 
     pub walked_more : i < n → (ps' : List ParameterInterpolator) → moved ps ≡ ps' → all_in rs (values ps') ≡ true → Walked rs n ps₀ (i + 1) ps'
     unfolding first_outside steps_of

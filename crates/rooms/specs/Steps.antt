@@ -4,8 +4,8 @@ use Rattle.floats.specs.F32.{zero32}
 use Rattle.parameter_interpolator.specs.declared.ParameterInterpolator.{ParameterInterpolator}
 use Rattle.parameter_interpolator.specs.Interpolator.{next_interpolator}
 use Rattle.rooms.specs.declared.Room.{Room}
-use Rattle.rooms.specs.declared.Found.{Found}
-use Rattle.rooms.specs.declared.Found.TheVariants.{Outside, Nowhere}
+use Rattle.std.specs.Prelude.{Option}
+use Rattle.std.specs.Prelude.{Some, None}
 use Rattle.rooms.specs.Rooms.{in_room}
 
 -- a place that is not used stands still, at 0
@@ -35,12 +35,12 @@ all_in (r ∷ rs) [] = true
 all_in (r ∷ rs) (x ∷ steps) = in_room r x && all_in rs steps
 
 -- the same, found one sample later
-abbrev pub later : Found → Found
-later Nowhere = Nowhere
-later (Outside i) = Outside (suc i)
+abbrev pub later : Option ℕ → Option ℕ
+later None = None
+later (Some i) = Some (suc i)
 
 -- 01: "the first such sample's index", a sample of which any step lies outside
-unfoldable pub first_outside : List Room → List (List Float) → Found
+unfoldable pub first_outside : List Room → List (List Float) → Option ℕ
 unfolding all_in
-first_outside rs [] = Nowhere
-first_outside rs (steps ∷ rest) = cond (all_in rs steps) (later (first_outside rs rest)) (Outside 0)
+first_outside rs [] = None
+first_outside rs (steps ∷ rest) = cond (all_in rs steps) (later (first_outside rs rest)) (Some 0)

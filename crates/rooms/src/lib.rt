@@ -18,7 +18,7 @@ pub fn still() -> ParameterInterpolator
     }
 }
 
-// One sample on.
+// One sample on. One by one: with the array's `map` the proof did not close.
 pub fn advance(p: [ParameterInterpolator; 5]) -> [ParameterInterpolator; 5]
     ensures { result ≡ moved p }
 {
@@ -56,49 +56,40 @@ pub fn in_room(room: Room, x: f32) -> bool
     }
 }
 
-#[derive(Clone, Copy)]
-pub enum Found {
-    Outside(u32),
-    Nowhere,
-}
-
-// How many places the walk looks at: the rooms from there on are unused, and most oscillators have some.
+// How many places the walk looks at: the rooms from there on are unused, and most oscillators have some. `rposition` would give a place, to which one is
+// added, and a second way where there is none.
 fn used_places(rooms: [Room; 5]) -> usize
-    ensures { (result ≤ 5) × ((k : ℕ) → result ≤ k → get_or rooms k Room.Unused ≡ Room.Unused) }
+    ensures within { result ≤ 5 }
+    ensures rest { (k : ℕ) → result ≤ k → get_or rooms k Room.Unused ≡ Room.Unused }
 {
-    let mut k = 5;
-    while k > 0 {
-        let last = rooms[k - 1];
-        let Room::Unused = last else {
-            return k;
-        };
-        k -= 1;
+    let mut used = 5;
+    while let Some(Room::Unused) = rooms[..used].last() {
+        used -= 1;
     }
-    0
+    used
 }
 
-// The walk over samples and parameters, which stops at the first step outside its room.
-pub fn first_outside(interpolators: [ParameterInterpolator; 5], rooms: [Room; 5], n: u32) -> Found
+// The walk over samples and parameters, which stops at the first step outside its room, and gives its sample. The places go by number, since it moves on
+// the one array and reads the other: rooms stay for a block, and so are no part of the interpolators.
+pub fn first_outside(
+    interpolators: [ParameterInterpolator; 5],
+    rooms: [Room; 5],
+    n: u32,
+) -> Option<u32>
     ensures { result ≡ first_outside rooms (steps_of n interpolators) }
 {
     let used = used_places(rooms);
     let mut moving = interpolators;
-    let mut i = 0;
-    'walk: loop {
-        if i >= n {
-            break 'walk Found::Nowhere;
-        }
-        let mut k = 0;
-        while k < used {
+    for i in 0..n {
+        for k in 0..used {
             let p = moving[k].next();
             moving[k] = p;
             if !in_room(rooms[k], p.value) {
-                break 'walk Found::Outside(i);
+                return Some(i);
             }
-            k += 1;
         }
-        i += 1;
     }
+    None
 }
 
 // Whether no step of a block from this value to this target can leave its room, of a value in the state's range and a target as the source makes it:
@@ -124,12 +115,11 @@ pub struct Glides {
 }
 
 // The first step outside its room. The walk costs more than the samples do, and where every parameter is safe there is nothing to look for.
-pub fn find_drift(glides: Glides, rooms: [Room; 5], n: u32) -> Found
-    ensures { result ≡ cond glides.safe Found.Nowhere (first_outside rooms (steps_of n glides.interpolators)) }
+pub fn find_drift(glides: Glides, rooms: [Room; 5], n: u32) -> Option<u32>
+    ensures { result ≡ cond glides.safe None (first_outside rooms (steps_of n glides.interpolators)) }
 {
     if glides.safe {
-        return Found::Nowhere;
+        return None;
     }
-    let interpolators = glides.interpolators;
-    first_outside(interpolators, rooms, n)
+    first_outside(glides.interpolators, rooms, n)
 }

@@ -1,85 +1,98 @@
 // The states as words, in the order of their fields: floats by their bits, a NaN as 7fc00000; bools as 0 or 1; whole numbers in two's complement.
-pub(crate) fn of_variable_shape(s: variable_shape::State) -> [u32; 10] {
-    [
-        floats::to_bits(s.master_phase),
-        floats::to_bits(s.slave_phase),
-        floats::to_bits(s.next_sample),
-        floats::to_bits(s.previous_pw),
-        block::one_if(s.high),
-        floats::to_bits(s.master_frequency),
-        floats::to_bits(s.slave_frequency),
-        floats::to_bits(s.pw),
-        floats::to_bits(s.waveshape),
-        floats::to_bits(s.phase_modulation),
-    ]
+// Said anew and not taken from the faces, whose words are held against these.
+pub(crate) trait Fields<const N: usize> {
+    fn fields(self) -> [u32; N];
 }
 
-// The saw's, in the order of its fields; likewise below.
-pub(crate) fn of_variable_saw(s: variable_saw::State) -> [u32; 7] {
-    [
-        floats::to_bits(s.phase),
-        floats::to_bits(s.next_sample),
-        floats::to_bits(s.previous_pw),
-        block::one_if(s.high),
-        floats::to_bits(s.frequency),
-        floats::to_bits(s.pw),
-        floats::to_bits(s.waveshape),
-    ]
+impl Fields<10> for variable_shape::State {
+    fn fields(self) -> [u32; 10] {
+        [
+            floats::to_bits(self.master_phase),
+            floats::to_bits(self.slave_phase),
+            floats::to_bits(self.next_sample),
+            floats::to_bits(self.previous_pw),
+            block::one_if(self.high),
+            floats::to_bits(self.master_frequency),
+            floats::to_bits(self.slave_frequency),
+            floats::to_bits(self.pw),
+            floats::to_bits(self.waveshape),
+            floats::to_bits(self.phase_modulation),
+        ]
+    }
 }
 
-// The super square's.
-pub(crate) fn of_super_square(s: super_square::State) -> [u32; 6] {
-    [
-        floats::to_bits(s.master_phase),
-        floats::to_bits(s.slave_phase),
-        floats::to_bits(s.next_sample),
-        block::one_if(s.high),
-        floats::to_bits(s.master_frequency),
-        floats::to_bits(s.slave_frequency),
-    ]
+impl Fields<7> for variable_saw::State {
+    fn fields(self) -> [u32; 7] {
+        [
+            floats::to_bits(self.phase),
+            floats::to_bits(self.next_sample),
+            floats::to_bits(self.previous_pw),
+            block::one_if(self.high),
+            floats::to_bits(self.frequency),
+            floats::to_bits(self.pw),
+            floats::to_bits(self.waveshape),
+        ]
+    }
 }
 
-// The NES triangle's.
-pub(crate) fn of_nes_triangle(s: nes_triangle::State) -> [u32; 5] {
-    [
-        floats::to_bits(s.phase),
-        floats::to_bits(s.next_sample),
-        words::unsigned(s.step),
-        block::one_if(s.ascending),
-        floats::to_bits(s.frequency),
-    ]
+impl Fields<6> for super_square::State {
+    fn fields(self) -> [u32; 6] {
+        [
+            floats::to_bits(self.master_phase),
+            floats::to_bits(self.slave_phase),
+            floats::to_bits(self.next_sample),
+            block::one_if(self.high),
+            floats::to_bits(self.master_frequency),
+            floats::to_bits(self.slave_frequency),
+        ]
+    }
 }
 
-// The string's.
-pub(crate) fn of_string_synth(s: string_synth::State) -> [u32; 8] {
-    [
-        floats::to_bits(s.phase),
-        floats::to_bits(s.next_sample),
-        words::unsigned(s.segment),
-        floats::to_bits(s.frequency),
-        floats::to_bits(s.saw_8_gain),
-        floats::to_bits(s.saw_4_gain),
-        floats::to_bits(s.saw_2_gain),
-        floats::to_bits(s.saw_1_gain),
-    ]
+impl Fields<5> for nes_triangle::State {
+    fn fields(self) -> [u32; 5] {
+        [
+            floats::to_bits(self.phase),
+            floats::to_bits(self.next_sample),
+            words::unsigned(self.step),
+            block::one_if(self.ascending),
+            floats::to_bits(self.frequency),
+        ]
+    }
 }
 
-// The classic's.
-pub(crate) fn of_classic(s: classic::State) -> [u32; 9] {
-    [
-        floats::to_bits(s.phase),
-        floats::to_bits(s.next_sample),
-        floats::to_bits(s.lp_state),
-        floats::to_bits(s.hp_state),
-        block::one_if(s.high),
-        floats::to_bits(s.frequency),
-        floats::to_bits(s.pw),
-        floats::to_bits(s.impulse_train_lp_coeff),
-        floats::to_bits(s.impulse_train_gain),
-    ]
+impl Fields<8> for string_synth::State {
+    fn fields(self) -> [u32; 8] {
+        [
+            floats::to_bits(self.phase),
+            floats::to_bits(self.next_sample),
+            words::unsigned(self.segment),
+            floats::to_bits(self.frequency),
+            floats::to_bits(self.saw_8_gain),
+            floats::to_bits(self.saw_4_gain),
+            floats::to_bits(self.saw_2_gain),
+            floats::to_bits(self.saw_1_gain),
+        ]
+    }
 }
 
-// The variable shape's state of any ten words. A word for `high` stands for true unless it is 0.
+impl Fields<9> for classic::State {
+    fn fields(self) -> [u32; 9] {
+        [
+            floats::to_bits(self.phase),
+            floats::to_bits(self.next_sample),
+            floats::to_bits(self.lp_state),
+            floats::to_bits(self.hp_state),
+            block::one_if(self.high),
+            floats::to_bits(self.frequency),
+            floats::to_bits(self.pw),
+            floats::to_bits(self.impulse_train_lp_coeff),
+            floats::to_bits(self.impulse_train_gain),
+        ]
+    }
+}
+
+// The variable shape's state of any ten words. A word for `high` stands for true unless it is 0. Only two oscillators have a start of such words, each with
+// fields of its own.
 pub(crate) fn variable_shape_of(w: [u32; 10]) -> variable_shape::State {
     variable_shape::State {
         master_phase: floats::from_bits(w[0]),

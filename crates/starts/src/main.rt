@@ -5,32 +5,37 @@
 
 mod fields;
 mod rating;
-mod record;
 mod setting;
 mod starting;
 
-// A proved loop has to end, and nothing says that the input does: so the turns are counted, up to a number that no run reaches.
+type Line = testing::Line<442>;
+
+// The starts, and then a line for each record.
 fn main(rt: HostRuntime) {
-    if !starting::say_all(rt) {
-        return;
-    }
-    for _ in 0..u64::MAX {
-        if !answer_next(rt) {
-            break;
-        }
+    if starting::say_all(rt) {
+        testing::repeat(|| answer_next(rt));
     }
 }
 
-// Prints the line of the next record, and answers whether there may be more.
+// Prints the line of the next record, and answers whether there may be more. One that the test programs share would need a contract on what is written,
+// which `streams::write` has none of.
 fn answer_next(rt: HostRuntime) -> bool {
-    let mut input = [0u8; 44];
-    if !streams::fill(rt, b"starts", &mut input) {
-        return false;
-    }
-    let mut space = [0u8; 442];
-    let text: &mut [u8] = &mut space;
-    let given = record::given(&input);
-    let set = setting::put_forms(text, record::state_words(&input), given);
-    let end = rating::put_forms(text, set, record::classic_words(&input), given);
-    streams::write(rt, b"starts", testing::front(text, end))
+    let mut record = [0u8; 44];
+    streams::fill(rt, b"starts", &mut record)
+        && streams::write(rt, b"starts", line_of(&record).as_bytes())
+}
+
+// A record's line. Its words are a variable shape's, the first nine of them a classic's too, and the float after them is a phase and a sample rate.
+fn line_of(record: &[u8; 44]) -> Line {
+    let given = floats::from_bits(testing::word_at(record, 40));
+    let mut line = Line::new();
+    setting::put_forms(&mut line, testing::words_at(record, 0), given);
+    rating::put_forms(&mut line, testing::words_at(record, 0), given);
+    line
+}
+
+// An answer's number and the words that were left.
+fn put_left(line: &mut Line, number: u32, words: &[u32], last: u8) {
+    line.put_number(number, b' ');
+    line.put_words(words, last);
 }

@@ -1,25 +1,13 @@
 // The classic started at a sample rate in its two forms, from the same words.
-use crate::fields;
+use crate::fields::{self, Fields};
+use crate::{Line, put_left};
 
-// The line's end: exported and by value, each with its answer and the words that it left.
-pub(crate) fn put_forms(text: &mut [u8], at: usize, words: [u32; 9], rate: f32) -> usize {
+// The line's end: exported and on a lent state, each with its answer and the words that it left.
+pub(crate) fn put_forms(line: &mut Line, words: [u32; 9], rate: f32) {
     let mut left = words;
     let number = navuloqu::classic_calls::navuloqu_3_classic_init(&mut left, rate);
-    let exported = put_left(text, at, number, &left, b' ');
-    let started = classic::init(fields::classic_of(words), rate);
-    let answer = started.answer;
-    let state = started.state;
-    put_left(
-        text,
-        exported,
-        block::number(answer),
-        &fields::of_classic(state),
-        b'\n',
-    )
-}
-
-// It takes an array by reference, whose length needs no proof.
-fn put_left(text: &mut [u8], at: usize, number: u32, words: &[u32; 9], last: u8) -> usize {
-    let answer = testing::put_number(text, at, number, b' ');
-    testing::put_words(text, answer, words, last)
+    put_left(line, number, &left, b' ');
+    let mut state = fields::classic_of(words);
+    let answer = classic::init(&mut state, rate);
+    put_left(line, block::number(answer), &state.fields(), b'\n');
 }

@@ -4,24 +4,15 @@
 
 ghost use Rattle.std.specs.Prelude.{◌≡◌, take};
 ghost use Rattle.io.specs.Counts.{IsPrefixLen};
-ghost use Rattle.stems.specs.Compose.{stem_for, number_for};
+ghost use Rattle.stems.specs.Compose.{number_of, count_of, stem_for, number_for};
 
-use streams::Input;
-
-// What is answered: the number, and how many bytes the stem has, 0 where there is none.
-#[derive(Drop)]
-struct Told {
-    number: u32,
-    count: usize,
-}
+use stems::Refusal;
 
 // An input that could not be read to its end is none: nothing is written for it.
 fn main(rt: HostRuntime) {
     let mut bytes = [0u8; 65541];
-    let input = streams::read(rt, b"stem", &mut bytes);
-    match input {
-        Input::Read(n) => answer(rt, &bytes[..n]),
-        Input::Failed => {}
+    if let Some(n) = streams::read(rt, b"stem", &mut bytes) {
+        answer(rt, &bytes[..n]);
     }
 }
 
@@ -33,26 +24,23 @@ fn answer(rt: HostRuntime, input: &[u8]) {
 
 // The stem, or else the number on a line of its own.
 fn write(rt: HostRuntime, input: &[u8], stem: &mut [u8; wave::ROOM]) {
-    let told = compose(input, stem);
-    let all = &stem[..];
-    let end = told.count;
-    if told.number == 0 {
-        streams::write(rt, b"stem", &all[0..end]);
-    } else {
-        let number = told.number;
-        let _ = eprintln!(rt; "{number}");
+    match compose(input, stem) {
+        Ok(end) => {
+            streams::write(rt, b"stem", &stem[..end]);
+        }
+        Err(refusal) => {
+            let number = stems::number(Err(refusal));
+            let _ = eprintln!(rt; "{number}");
+        }
     }
 }
 
 // What is written for the bytes that were read: their stem, whole, and nothing else, and the number that is said of them. That is all that a contract can
 // say of the program; which bytes those are, no contract says.
-fn compose(input: &[u8], stem: &mut [u8; wave::ROOM]) -> Told
-    ensures prefix_len { IsPrefixLen result.count stem.new }
-    ensures number_value { (result.number ≡ number_for input.now) × (take result.count stem.new ≡ stem_for input.now) }
+fn compose(input: &[u8], stem: &mut [u8; wave::ROOM]) -> Result<usize, Refusal>
+    ensures prefix_len { IsPrefixLen (count_of result) stem.new }
+    ensures number_value { number_of result ≡ number_for input.now }
+    ensures stem_after { take (count_of result) stem.new ≡ stem_for input.now }
 {
-    let composed = stems::compose(input, stem);
-    Told {
-        number: stems::number(composed),
-        count: stems::count(composed),
-    }
+    stems::compose(input, stem)
 }

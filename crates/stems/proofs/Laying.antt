@@ -1,19 +1,21 @@
 -- The loop over the records, of plain lists. Assumes nothing.
 use mathlib.Core.Path.{◌≡◌, refl, sym, ap, ◌∙◌}
-use mathlib.Core.Bool.{Bool, true, false, ◌&&◌, and-true}
+use mathlib.Core.Bool.{Bool, true, false}
 use mathlib.Core.List.{List, ◌++◌, append_assoc, append-nil}
 use Prim.Native.Nat.{ℕ, suc, ◌+◌, ◌-◌, ◌≤◌, ◌<◌}
 use native.Mathlib.Numerals.{add-one}
 use native.Mathlib.Omega.{arith}
-use borrow.Author.Tests.{ltb-true, ltb-false, le-leb, leb-true, eqb-true, eqb-false}
-use lib.Dec.{ltb, leb, eqb}
+use borrow.Author.Tests.{eqb-true, eqb-false}
+use lib.Dec.{eqb}
 use lib.ListN.{length, take, drop, length-append, length-take, length-drop}
 use lib.Seq.{take_at}
 use lib.Ieee.{Float}
-use Rattle.floats.proofs.Bools.{and_both}
 use Rattle.jobs.specs.Words.{record_of}
 use Rattle.bank.specs.declared.Bank.{Bank}
-use Rattle.bank.specs.declared.Played.{Played}
+use Rattle.std.specs.Prelude.{Result}
+use Rattle.block.specs.declared.refusal.Refusal.{Refusal}
+use Rattle.block.specs.declared.Counts.{Counts}
+use Rattle.block.specs.Answers.{number_of}
 use Rattle.bank.specs.Bank.{init_bank, record_played}
 use Rattle.bank.specs.Lent.{Handed, handed_back, play_of}
 use Rattle.bank.proofs.Refused.{record_silent}
@@ -60,32 +62,40 @@ laying_start list n d b h l = record {
 }
 
 module _ (sound : List Float) (list : List ℕ) (n : ℕ) (d₀ d : List Float) (b : Bank) (at k : ℕ) (w : Laying sound list n d₀ d b at k) where
-  -- the loop's test
-  in_turn : (ltb k n && leb at 1048576) ≡ true → (k < n) × (at ≤ 1048576)
-  in_turn h = let both = and_both _ _ h in (ltb-true k n both.0, leb-true at 1048576 both.1)
+  over : 1048576 < at → 1048576 < length sound
+  over l = omega (arith, w.most, w.room, w.long, w.short, simp (length-append, length-take) at (ap length (w.whole (n - k) (omega (arith, w.most)))))
 
-  pub laying_end : (ltb k n && leb at 1048576) ≡ false → Laid sound at d
+  -- all records are played
+  pub laying_end : n ≤ k → Laid sound at d
   unfolding sound_of records_from
   laying_end h = record {
     room = omega (arith, w.room, w.long, w.short);
-    whole = λ l. w.whole 0 (omega (arith, w.most, ltb-false k n (rw (le-leb at 1048576 l, and-true) at h))) ∙ append-nil _;
-    over = λ l. omega (arith, w.most, w.room, w.long, w.short, simp (length-append, length-take) at (ap length (w.whole (n - k) (omega (arith, w.most)))));
+    whole = λ l. w.whole 0 (omega (arith, w.most)) ∙ append-nil _;
+    over = over;
+  }
+
+  -- or their samples are too many already
+  pub laying_full : 1048576 < at → Laid sound at d
+  laying_full h = record {
+    room = omega (arith, w.room, w.long, w.short);
+    whole = λ l. absurd (omega arith);
+    over = over;
   }
 
   -- one record more, in what is left of the buffer
-  pub laying_more : (p : List ℕ) (r : Played) (x : List Float) (l : ℕ) → (ltb k n && leb at 1048576) ≡ true → p ≡ record_of list k
-      → handed_back r x ≡ play_of b p (take (length d - at) (drop at d)) → l ≡ left_of r.outcome.answer p
-      → Laying sound list n d₀ (take at d ++ (x ++ drop (length d - at) (drop at d))) r.bank (at + l) (k + 1)
+  pub laying_more : (p : List ℕ) (r : Result Counts Refusal) (b' : Bank) (x : List Float) (l : ℕ) → k < n → at ≤ 1048576 → p ≡ record_of list k
+      → handed_back r b' x ≡ play_of b p (take (length d - at) (drop at d)) → l ≡ left_of (number_of r) p
+      → Laying sound list n d₀ (take at d ++ (x ++ drop (length d - at) (drop at d))) b' (at + l) (k + 1)
   unfolding sound_of records_from
-  laying_more p r x l h o e q =
-      let fits : at + length (record_played b p).samples ≤ length d = omega (arith, in_turn h, record_short b p, w.room, w.long) in
-      let same = e ∙ always_room b p (take (length d - at) (drop at d)) (omega (arith, in_turn h, left_over d at, w.room, w.long)) in
+  laying_more p r b' x l h few o e q =
+      let fits : at + length (record_played b p).samples ≤ length d = omega (arith, record_short b p, w.room, w.long) in
+      let same = e ∙ always_room b p (take (length d - at) (drop at d)) (omega (arith, left_over d at, w.room, w.long)) in
       let all : l ≡ length (record_played b p).samples = q ∙ ap (λ (m : Handed). left_of m.outcome.answer p) same ∙ left_long b p in
       rw (ap (λ (m : Handed). m.buffer) same, ap (λ (m : Handed). m.bank) same, all)
       (record {
-        most = omega (arith, in_turn h);
+        most = omega arith;
         room = w.room;
         long = put_long d (record_played b p).samples at fits ∙ w.long;
-        short = omega (arith, in_turn h, record_short b p);
+        short = omega (arith, record_short b p);
         whole = λ m g. w.whole (suc m) (omega arith) ∙ rw (put_front d (record_played b p).samples at fits, add-one, o) (sym (append_assoc (take at d) _ _));
       })

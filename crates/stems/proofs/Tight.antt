@@ -6,23 +6,25 @@ use Prim.Native.Nat.{ℕ}
 use lib.Dec.{eqb}
 use Rattle.floats.specs.Tightness.{Determines}
 use Rattle.floats.proofs.Tightness.{coincide}
-use Rattle.stems.specs.declared.Composed.{Composed}
-use Rattle.stems.specs.declared.Composed.TheVariants.{Stem, BadInput, BadParam, NoRoom}
+use Rattle.std.specs.Prelude.{Result, Ok, Err}
+use Rattle.wave.specs.declared.Refusal.TheVariants.{BadParam, NoRoom}
+use Rattle.stems.specs.declared.Refusal.{Refusal}
+use Rattle.stems.specs.declared.Refusal.TheVariants.{BadInput, Wave}
 use Rattle.stems.specs.Compose.{Handed, number_of, count_of}
 use Rattle.stems.proofs.number
 use Rattle.stems.proofs.count
 use Rattle.stems.proofs.compose
 
 -- the answer with this number and this count
-answered : ℕ → ℕ → Composed
-answered number count = cond (eqb number 0) (Stem count) (cond (eqb number 8) BadInput (cond (eqb number 4) BadParam NoRoom))
+answered : ℕ → ℕ → Result ℕ Refusal
+answered number count = cond (eqb number 0) (Ok count) (Err (cond (eqb number 8) BadInput (Wave (cond (eqb number 4) BadParam NoRoom))))
 
-by_number : (r : Composed) → answered (number_of r) (count_of r) ≡ r
+by_number : (r : Result ℕ Refusal) → answered (number_of r) (count_of r) ≡ r
 unfolding answered
-by_number (Stem n) = refl
-by_number BadInput = refl
-by_number BadParam = refl
-by_number NoRoom = refl
+by_number (Ok n) = refl
+by_number (Err BadInput) = refl
+by_number (Err (Wave BadParam)) = refl
+by_number (Err (Wave NoRoom)) = refl
 
 pub number_tight : Determines (ended_of _ number.Kinds.ps number.Kinds.r) number.Reads.Learnt
 number_tight κs a r q v w h k = (coincide h k, refl)

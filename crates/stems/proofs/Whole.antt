@@ -11,7 +11,8 @@ use lib.Ieee.{Float}
 use Rattle.wave.specs.Form.{stem_of}
 use Rattle.wave.specs.Write.{is_fit, write_of}
 use Rattle.wave.proofs.Ways.{fit_small}
-use Rattle.stems.specs.declared.Composed.{Composed}
+use Rattle.std.specs.Prelude.{Result}
+use Rattle.stems.specs.declared.Refusal.{Refusal}
 use Rattle.stems.specs.Compose.{given_rate, given_list, is_input, sound_in, Handed, written, compose_of, handed_back, stem_for, number_for}
 use Rattle.stems.proofs.Ways.{unfit_written}
 
@@ -58,5 +59,5 @@ module _ (input d : List ℕ) where
       go true h true f = fit h l f
 
 -- so a buffer of that size is never too short: the number is 8, 4 or 0, and what was written is the stem, whole, and nothing else
-pub always_room : (r : Composed) (d' input d : List ℕ) → handed_back r d' ≡ compose_of input d → 2097196 ≤ length d → Answered input (handed_back r d')
+pub always_room : (r : Result ℕ Refusal) (d' input d : List ℕ) → handed_back r d' ≡ compose_of input d → 2097196 ≤ length d → Answered input (handed_back r d')
 always_room r d' input d e l = rw e (answered input d l)

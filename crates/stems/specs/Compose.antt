@@ -1,15 +1,15 @@
 -- What is answered for a rate and a job list, and what is left in the lent bytes. Assumes nothing.
-use Rattle.std.specs.Prelude.{Bool, ◌&&◌, cond, List, [], ℕ, ◌/◌, leb, eqb, length, drop, Float}
-use Rattle.block.specs.declared.Answer.TheVariants.{BadInput}
-use Rattle.block.specs.Answers.{number_of as answer_number}
+use Rattle.std.specs.Prelude.{Bool, ◌&&◌, cond, List, [], ℕ, ◌/◌, leb, eqb, length, drop, Float, Result, Ok, Err}
+use Rattle.block.specs.declared.refusal.Refusal.TheVariants.{BadInput}
+use Rattle.block.specs.Answers.{refusal_number}
 use Rattle.jobs.specs.Words.{word_at}
 use Rattle.bank.specs.Bank.{init_bank}
 use Rattle.render.specs.Lists.{records_from, is_job_list}
-use Rattle.wave.specs.declared.Written.TheVariants.{Done, BadParam, NoRoom}
+use Rattle.wave.specs.declared.Refusal.TheVariants.{BadParam}
 use Rattle.wave.specs.Form.{stem_of}
 use Rattle.wave.specs.Write.{is_fit, write_of, number_of as wave_number}
-use Rattle.stems.specs.declared.Composed.{Composed}
-use Rattle.stems.specs.declared.Composed.TheVariants.{Stem, BadInput as Malformed, BadParam as Unfit, NoRoom as TooShort}
+use Rattle.stems.specs.declared.Refusal.{Refusal}
+use Rattle.stems.specs.declared.Refusal.TheVariants.{BadInput as Malformed, Wave}
 use Rattle.stems.specs.Sound.{sound_of}
 
 -- the rate, four bytes, the lowest first; then a job list
@@ -43,22 +43,19 @@ unfoldable pub compose_of : List ℕ → List ℕ → Handed
 compose_of input d =
     cond (is_input input)
     (written (given_rate input) (sound_in (given_list input)) d)
-    (record { number = answer_number BadInput; count = 0; bytes = d })
+    (record { number = refusal_number BadInput; count = 0; bytes = d })
 
 -- the same of what the function answered, by cases: its number, its count, and both beside the bytes
-abbrev pub number_of : Composed → ℕ
-number_of (Stem n) = wave_number Done
-number_of Malformed = answer_number BadInput
-number_of Unfit = wave_number BadParam
-number_of TooShort = wave_number NoRoom
+abbrev pub number_of : Result ℕ Refusal → ℕ
+number_of (Ok n) = wave_number (Ok tt)
+number_of (Err Malformed) = refusal_number BadInput
+number_of (Err (Wave refusal)) = wave_number (Err refusal)
 
-abbrev pub count_of : Composed → ℕ
-count_of (Stem n) = n
-count_of Malformed = 0
-count_of Unfit = 0
-count_of TooShort = 0
+abbrev pub count_of : Result ℕ Refusal → ℕ
+count_of (Ok n) = n
+count_of (Err refusal) = 0
 
-abbrev pub handed_back : Composed → List ℕ → Handed
+abbrev pub handed_back : Result ℕ Refusal → List ℕ → Handed
 handed_back r d = record { number = number_of r; count = count_of r; bytes = d }
 
 -- ---- in the words of a promise
@@ -70,4 +67,4 @@ unfoldable pub stem_for : List ℕ → List ℕ
 stem_for input = cond (has_stem input) (stem_of (given_rate input) (sound_in (given_list input))) []
 
 unfoldable pub number_for : List ℕ → ℕ
-number_for input = cond (has_stem input) (wave_number Done) (cond (is_input input) (wave_number BadParam) (answer_number BadInput))
+number_for input = cond (has_stem input) (wave_number (Ok tt)) (cond (is_input input) (wave_number (Err BadParam)) (refusal_number BadInput))

@@ -1,7 +1,7 @@
 -- The string synth's parameters are as the guard presumes them: of a valid state, and of parameters that passed their tests, the frequency's target lies from 2 ^ -24 to 0.5 and each gain's from
 -- -8 to 12. Assumes nothing.
-use Rattle.std.proofs.Common.{◌≡◌, ℕ, ◌*◌, ◌<◌, ◌≤◌, true, false, T, List, [], ◌∷◌, length, get_or, arith, lit<}
-use lib.Ieee.{Float, nan, binary32, lt, fits}
+use Rattle.std.proofs.Common.{◌≡◌, ℕ, ◌*◌, ◌<◌, ◌≤◌, true, false, T, List, [], ◌∷◌, length, arith, lit<}
+use lib.Ieee.{Float, binary32, lt, fits}
 use lib.Ieee.Fits.{mul-fits}
 use Rattle.floats.specs.F32.{◌⊗◌, half32, eight32}
 use Rattle.floats.proofs.Bools.{and_both}
@@ -20,7 +20,7 @@ use Rattle.string_synth.specs.declared.State.{State}
 use Rattle.string_synth.specs.declared.sample.Saws.{Saws}
 use Rattle.string_synth.specs.Targets.{lowered, shift_of, placed_at, targets_of}
 use Rattle.string_synth.specs.Block.{gains_in, parameters_in}
-use Rattle.string_synth.specs.Private.{Valid, courses}
+use Rattle.string_synth.specs.Private.{Valid, Entries32, courses}
 use Rattle.string_synth.proofs.Shifts.{loop_ends}
 use Rattle.string_synth.proofs.Gains.{placed_in, alone, difference, plus_twice, four_at, gain_in}
 
@@ -32,7 +32,7 @@ frequency_target_lem f t h low =
     let l = loop_ends f (size_of f) F.0 F.2 (failed_lt half_at F.0 low) in
     rw (l.same 1) (l.at.fit, rw (passes_le least_target_at l.at (omega (arith, F.1, l.least)), l.low))
 
-module _ (frequency : Float) (registration : List Float) (gain : Float) (f : T (fits binary32 frequency)) (entries : (i : ℕ) → T (fits binary32 (get_or registration i nan))) (g : T (fits binary32 gain))
+module _ (frequency : Float) (registration : List Float) (gain : Float) (f : T (fits binary32 frequency)) (entries : Entries32 registration) (g : T (fits binary32 gain))
     (seven : length registration ≡ 7) (h : parameters_in frequency registration gain ≡ true) (low : lt half32 frequency ≡ false) where
   entry : (i : ℕ) → i < 7 → UpTo (placed_at registration (shift_of frequency) i) cycle
   unfolding parameters_in

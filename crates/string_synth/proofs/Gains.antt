@@ -1,6 +1,6 @@
 -- Where the gains lie that a registration gives the four saws: from -8 to 12, for entries from 0 to 1 and a gain from 0 to 4, whatever rounding does. Assumes nothing.
-use Rattle.std.proofs.Common.{◌≡◌, ℕ, zero, suc, ◌+◌, ◌-◌, ◌*◌, ◌^◌, ◌<◌, ◌≤◌, true, T, ltb, List, [], ◌∷◌, length, get_or, refl, zero-le, le_trans, le_of_eq, lt_of_le_of_lt, zero-lt-suc, mul-le-mul, mul-one, arith, pow_pos}
-use lib.Ieee.{Float, nan, binary32, sub, fits, of_bits}
+use Rattle.std.proofs.Common.{◌≡◌, ℕ, zero, suc, ◌+◌, ◌-◌, ◌*◌, ◌^◌, ◌<◌, ◌≤◌, true, ltb, List, [], ◌∷◌, length, get_or, refl, zero-le, le_trans, le_of_eq, lt_of_le_of_lt, zero-lt-suc, mul-le-mul, mul-one, arith, pow_pos}
+use lib.Ieee.{Float, nan, sub, fits, of_bits}
 use Rattle.floats.specs.F32.{f32, ◌⊕◌, ◌⊖◌, ◌⊗◌, zero32, two32, four32}
 use Rattle.floats.proofs.Bools.{and_both, cond_both}
 use Rattle.floats.proofs.Rounding.{rnd, rnd_up, rnd_mono}
@@ -14,16 +14,16 @@ use Rattle.rooms.specs.declared.Room.TheVariants.{ModulationOrGain}
 use Rattle.rooms.proofs.Kept.{target_in, twelve_at, minus_8, of_from}
 use Rattle.string_synth.specs.Targets.{placed_at}
 use Rattle.string_synth.specs.Block.{registration_in}
+use Rattle.string_synth.specs.Private.{Entries32}
 
 -- ---- the entries of a shifted registration
 entry_in : (xs : List Float) (i : ℕ) → registration_in xs ≡ true → i < length xs → unit_in (get_or xs i nan) ≡ true
-unfolding registration_in
 entry_in [] i h l = absurd (omega arith)
 entry_in (x ∷ xs) zero h l = (and_both (unit_in x) (registration_in xs) h).0
 entry_in (x ∷ xs) (suc i) h l = entry_in xs i (and_both (unit_in x) (registration_in xs) h).1 (omega arith)
 
 -- a place that the shift leaves empty is 0.0
-pub placed_in : (xs : List Float) (shift i : ℕ) → ((k : ℕ) → T (fits binary32 (get_or xs k nan))) → registration_in xs ≡ true → i < length xs → UpTo (placed_at xs shift i) cycle
+pub placed_in : (xs : List Float) (shift i : ℕ) → Entries32 xs → registration_in xs ≡ true → i < length xs → UpTo (placed_at xs shift i) cycle
 placed_in xs shift i t h l =
     let u = and_both _ _ (entry_in xs (i - shift) h (omega arith)) in
     cond_both (λ (x : Float). UpTo x cycle) (ltb i shift) zero32 (get_or xs (i - shift) nan) (record { n = 0; at = zero_at; most = zero-le }) (upto_of (t (i - shift)) u.0 u.1 one_at)

@@ -1,32 +1,9 @@
--- The loop over a registration's entries, and the gains that its places give, in plain values. Assumes nothing.
-use Rattle.std.proofs.Common.{◌≡◌, ℕ, ◌+◌, ◌<◌, ◌≤◌, Bool, true, ◌&&◌, List, length, get_or, drop, sym, refl, ap, ◌∙◌, add-one, arith, drop_of_length-le, drop-cons}
-use mathlib.Core.Bool.{and-true, and_assoc}
-use lib.Ieee.{Float, nan}
+-- The gains that the places of a registration give, in plain values. Assumes nothing.
+use Rattle.std.proofs.Common.{◌≡◌, List}
+use lib.Ieee.{Float}
 use Rattle.floats.specs.F32.{◌⊕◌, ◌⊖◌, ◌⊗◌, two32, eight32}
-use Rattle.ranges.specs.Ranges.{unit_in}
 use Rattle.string_synth.specs.declared.targets.Octave.{Octave}
 use Rattle.string_synth.specs.Targets.{lowered, placed_at, gain_between, targets_of}
-use Rattle.string_synth.specs.Block.{registration_in}
-
--- the first i entries are tested, and what is left is the test of the rest
-pub record Tested (xs : List Float) (inside : Bool) (i : ℕ) : Type 0 where
-  pub most : i ≤ length xs
-  pub same : (inside && registration_in (drop i xs)) ≡ registration_in xs
-
-pub tested_start : (xs : List Float) → Tested xs true 0
-tested_start xs = record { most = omega arith; same = refl }
-
-module _ (xs : List Float) (inside : Bool) (i : ℕ) (t : Tested xs inside i) where
-  pub tested_end : length xs ≤ i → inside ≡ registration_in xs
-  unfolding registration_in
-  tested_end h = sym (and-true inside) ∙ ap (λ (ys : List Float). inside && registration_in ys) (sym (drop_of_length-le xs h)) ∙ t.same
-
-  pub tested_more : i < length xs → (entry : Bool) → entry ≡ unit_in (get_or xs i nan) → Tested xs (inside && entry) (i + 1)
-  unfolding registration_in
-  tested_more l entry e = record {
-    most = omega arith;
-    same = rw (add-one, e, and_assoc) (ap (λ (ys : List Float). inside && registration_in ys) (sym (drop-cons xs i nan l)) ∙ t.same);
-  }
 
 -- the targets, from the parts
 pub targets_is : (frequency : Float) (unshifted : List Float) (gain : Float) (o : Octave) (r0 r1 r2 r3 r4 r5 r6 g4 g2 : Float) → o ≡ lowered (frequency ⊗ eight32)

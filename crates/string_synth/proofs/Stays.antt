@@ -5,22 +5,17 @@ use lib.Signed.{non_neg}
 use mir.ValLaws.{to_z_pos}
 use lib.Ieee.{Float, binary32, le, lt}
 use lib.Ieee.Fits.{add-fits}
-use Rattle.floats.specs.F32.{whole32, ◌⊕◌, one32}
+use Rattle.floats.specs.F32.{◌⊕◌, one32}
 use Rattle.floats.proofs.Bools.{and_both}
 use Rattle.whole_part.specs.WholePart.{whole_part}
 use Rattle.whole_part.proofs.Tested.{whole_part_between}
 use Rattle.block.specs.Counting.{no_counts}
-use Rattle.block.specs.Play.{Sample}
+use Rattle.block.specs.declared.sample.Sample.{Sample}
 use Rattle.string_synth.specs.declared.State.{State}
 use Rattle.string_synth.specs.declared.sample.Saws.{Saws}
 use Rattle.string_synth.specs.declared.sample.Starts.{Starts}
-use Rattle.string_synth.specs.declared.sample.Sampled.{Sampled}
 use Rattle.string_synth.specs.Sample.{stayed, reached_of, finish, sample_of}
-use Rattle.string_synth.specs.Private.{Valid}
-
--- the starts of a segment's saws
-abbrev pub starts_of : ℕ → Starts
-starts_of segment = record { saw_4 = whole32 (bit_and segment 4); saw_2 = whole32 (bit_and segment 6); saw_1 = whole32 (bit_and segment 7) }
+use Rattle.string_synth.specs.Private.{Valid, starts_of}
 
 -- a whole part in an i32 is the number that its bits are
 module _ {z : ℤ} {k : ℕ} (e : z ≡ pos k) (few : k ≤ 131072) where
@@ -45,7 +40,7 @@ module _ (s : State) (starts : Starts) (saws : Saws) (v : Valid s) (at-starts : 
   unfolding reached_of
   reach_quiet = rw (whole_is, v.segment, eq-eqb v.k v.k refl)
 
-  module _ (held : Float) {t : Sampled} (at-t : t ≡ sample_of s saws held) where
+  module _ (held : Float) {t : Sample State} (at-t : t ≡ sample_of s saws held) where
     -- nothing is counted
     pub quiet_made : ◌≡◌ {A = Sample State} (record { state = t.state; sample = t.sample; counts = no_counts }) (record { state = t.state; sample = t.sample; counts = t.counts })
     unfolding sample_of finish
@@ -57,6 +52,6 @@ module _ (s : State) (starts : Starts) (saws : Saws) (v : Valid s) (at-starts : 
     quiet_starts = rw (at-t, reach_quiet) at-starts
 
 -- the segment that any sample leaves
-pub sampled_segment : (s : State) (saws : Saws) (held : Float) {t : Sampled} → t ≡ sample_of s saws held → t.state.segment ≡ pos (reached_of s saws).segment
+pub sampled_segment : (s : State) (saws : Saws) (held : Float) {t : Sample State} → t ≡ sample_of s saws held → t.state.segment ≡ pos (reached_of s saws).segment
 unfolding sample_of finish
 sampled_segment s saws held at-t = rw at-t refl

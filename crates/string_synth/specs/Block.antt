@@ -1,6 +1,7 @@
 -- The string synth as an oscillator of `block`: string_synth_oscillator.rs, lines 53 to 151, with 01's checks before it. Assumes nothing.
 use Rattle.block.specs.Checks.{◌unless◌}
-use Rattle.std.specs.Prelude.{ℕ, Bool, true, not, ◌&&◌, List, [], ◌∷◌, length, ℤ, pos, int_le, nat_eq, Float}
+use Rattle.std.specs.Prelude.{ℕ, Bool, not, ◌&&◌, List, [], ◌∷◌, length, ℤ, pos, int_le, nat_eq, Float, Result}
+use Rattle.std.specs.List.{list_all}
 use Rattle.std.specs.Float.Ieee.{lt, le}
 use Rattle.floats.specs.F32.{zero32, half32, four32, eight32, top_string_step}
 use Rattle.parameter_interpolator.specs.declared.ParameterInterpolator.{ParameterInterpolator}
@@ -8,10 +9,11 @@ use Rattle.parameter_interpolator.specs.Interpolator.{new_interpolator}
 use Rattle.rooms.specs.declared.Room.{Room}
 use Rattle.rooms.specs.declared.Room.TheVariants.{StringFrequency, ModulationOrGain}
 use Rattle.ranges.specs.Ranges.{within, parameter_frequency_in, unit_in, modulation_or_gain_in, all_of}
+use Rattle.block.specs.declared.Counts.{Counts}
+use Rattle.block.specs.declared.refusal.Refusal.{Refusal}
 use Rattle.block.specs.Calls.{Call, gave}
 use Rattle.block.specs.Oscillator.{Oscillator, call_of}
 use Rattle.string_synth.specs.declared.State.{State}
-use Rattle.string_synth.specs.declared.Rendered.{Rendered}
 use Rattle.string_synth.specs.declared.sample.Saws.{Saws}
 use Rattle.string_synth.specs.Sample.{sample_at}
 use Rattle.string_synth.specs.Targets.{targets_of}
@@ -39,9 +41,8 @@ state_in s =
     ∷ [])
 
 -- each entry from 0 to 1
-unfoldable pub registration_in : List Float → Bool
-registration_in [] = true
-registration_in (x ∷ xs) = unit_in x && registration_in xs
+abbrev pub registration_in : List Float → Bool
+registration_in = list_all unit_in
 
 -- 01, "Parameters": the frequency from MIN_FREQUENCY to 1, the registration's entries from 0 to 1, the gain from 0 to 4
 unfoldable pub parameters_in : Float → List Float → Float → Bool
@@ -90,6 +91,6 @@ string_synth = record {
 abbrev pub render_of : State → Float → List Float → Float → List Float → Call State
 render_of s frequency registration gain xs = call_of string_synth s (record { frequency = frequency; registration = registration; gain = gain; buffer = xs })
 
--- what a call returned and left in the buffer, in 01's numbers
-abbrev pub as_call : Rendered → List Float → Call State
-as_call r xs = gave r.answer r.state r.counts xs
+-- what a call returned, and left in the state and in the buffer, in 01's numbers
+abbrev pub as_call : Result Counts Refusal → State → List Float → Call State
+as_call = gave

@@ -5,11 +5,10 @@ use Rattle.floats.specs.F32.{whole32, ◌⊕◌, ◌⊖◌, ◌⊗◌, ◌⊘◌
 use Rattle.polyblep.specs.Polyblep.{this_blep_sample, next_blep_sample}
 use Rattle.whole_part.specs.WholePart.{whole_part, is_whole}
 use Rattle.block.specs.Counting.{one_if}
-use Rattle.block.specs.Play.{Sample}
+use Rattle.block.specs.declared.sample.Sample.{Sample}
 use Rattle.string_synth.specs.declared.State.{State}
 use Rattle.string_synth.specs.declared.sample.Saws.{Saws}
 use Rattle.string_synth.specs.declared.sample.Reached.{Reached}
-use Rattle.string_synth.specs.declared.sample.Sampled.{Sampled}
 
 -- a gain taken off where its saw falls, lines 120 to 130
 abbrev pub less_if : Bool → Float → Float → Float
@@ -93,7 +92,7 @@ next_sample e saws =
 
 -- The end of a sample, lines 141 to 150: it is added to what the buffer held. The source stores the frequency and the gains as it drops
 -- their interpolators, and what it stores is the last step.
-unfoldable pub finish : Reached → Saws → Float → Sampled
+unfoldable pub finish : Reached → Saws → Float → Sample State
 finish e saws held = record {
   state = record {
     phase = e.phase;
@@ -110,7 +109,7 @@ finish e saws held = record {
 }
 
 -- one sample, lines 107 to 150
-unfoldable pub sample_of : State → Saws → Float → Sampled
+unfoldable pub sample_of : State → Saws → Float → Sample State
 sample_of s saws held = finish (reached_of s saws) saws held
 
 -- a sample's steps, by name: lines 110 to 114

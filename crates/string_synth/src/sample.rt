@@ -1,11 +1,11 @@
 // One sample of the string synth, in the source's order.
-ghost use Rattle.std.specs.Prelude.{◌≡◌, ◌≤◌, bit_and};
-ghost use Rattle.floats.specs.F32.{whole32};
+ghost use Rattle.std.specs.Prelude.{◌≡◌, ◌≤◌};
 ghost use Rattle.whole_part.specs.WholePart.{is_whole};
 ghost use Rattle.string_synth.specs.Sample.{less_if, discontinuity_of, wrap_phase, wrap_segment, blep_of, softened, stayed, crossed, reached_of, next_sample, finish as finished, sample_of};
+ghost use Rattle.string_synth.specs.Private.{starts_of};
 
 use crate::State;
-use block::Counts;
+use block::{Counts, Sample};
 use std::num::nearest_u32_to_f32;
 
 // The frequency of the saws, and how loud each of the four is.
@@ -37,15 +37,8 @@ pub struct Reached {
     pub rises: u32,
 }
 
-// A sample, and what it leaves behind: the state for the next one, and what 01 counts.
-#[derive(Clone, Copy)]
-pub struct Sampled {
-    pub sample: f32,
-    pub state: State,
-    pub counts: Counts,
-}
-
 // Whether the phase is still in the state's segment: line 118. The cast is safe, since a whole part is 131,072 at most.
+// The NES triangle has this line for its step: a function for both would be longer, by its contract.
 fn in_segment(s: State, whole: u32) -> bool
     requires { whole ≤ 131072 }
     ensures { result ≡ is_whole whole s.segment }
@@ -95,12 +88,9 @@ fn blep(e: Reached, discontinuity: f32, frequency: f32) -> Reached
     let fraction = e.phase - nearest_u32_to_f32(e.segment);
     let t = fraction / frequency;
     Reached {
-        phase: e.phase,
-        segment: e.segment,
         this_sample: e.this_sample + polyblep::this_blep_sample(t) * discontinuity,
         next_sample: e.next_sample + polyblep::next_blep_sample(t) * discontinuity,
-        cycles: e.cycles,
-        rises: e.rises,
+        ..e
     }
 }
 
@@ -161,7 +151,7 @@ fn reach(s: State, saws: Saws) -> Reached
 
 // Where in a cycle the saws of a segment start, lines 141 to 144: the 4' saw every four segments, the 2' saw every two, and the 1' saw at each.
 pub(crate) fn starts_of(segment: u32) -> Starts
-    ensures { result ≡ record { saw_4 = whole32 (bit_and segment 4); saw_2 = whole32 (bit_and segment 6); saw_1 = whole32 (bit_and segment 7) } }
+    ensures { result ≡ starts_of segment }
 {
     Starts {
         saw_4: nearest_u32_to_f32(segment & 4),
@@ -170,9 +160,10 @@ pub(crate) fn starts_of(segment: u32) -> Starts
     }
 }
 
-// What the next sample starts with, lines 141 to 144: the four saws, each about zero. The products go from the left, as the source's.
+// What the next sample starts with, lines 141 to 144: the four saws, each about zero. That the starts are the segment's is of two values, of which the state
+// has only one: it is no invariant. The products go from the left, as the source's.
 fn next_sample(e: Reached, starts: Starts, saws: Saws) -> f32
-    requires { starts ≡ record { saw_4 = whole32 (bit_and e.segment 4); saw_2 = whole32 (bit_and e.segment 6); saw_1 = whole32 (bit_and e.segment 7) } }
+    requires { starts ≡ starts_of e.segment }
     ensures { result ≡ next_sample e saws }
 {
     let of_8 = e.next_sample + (e.phase - 4.0) * saws.saw_8_gain * 0.125;
@@ -182,12 +173,12 @@ fn next_sample(e: Reached, starts: Starts, saws: Saws) -> f32
 }
 
 // The end of a sample, lines 139 to 150. It is added to what the mix buffer held.
-pub(crate) fn finish(e: Reached, starts: Starts, saws: Saws, held: f32) -> Sampled
+pub(crate) fn finish(e: Reached, starts: Starts, saws: Saws, held: f32) -> Sample<State>
     requires segment_in_range { e.segment ≤ 131072 }
-    requires starts_of_segment { starts ≡ record { saw_4 = whole32 (bit_and e.segment 4); saw_2 = whole32 (bit_and e.segment 6); saw_1 = whole32 (bit_and e.segment 7) } }
+    requires starts_of_segment { starts ≡ starts_of e.segment }
     ensures { result ≡ finished e saws held }
 {
-    Sampled {
+    Sample {
         sample: held + 2.0 * e.this_sample,
         state: State {
             phase: e.phase,
@@ -211,7 +202,7 @@ pub(crate) fn finish(e: Reached, starts: Starts, saws: Saws, held: f32) -> Sampl
 }
 
 // Lines 107 to 150.
-pub(crate) fn sample(s: State, saws: Saws, held: f32) -> Sampled
+pub(crate) fn sample(s: State, saws: Saws, held: f32) -> Sample<State>
     ensures { result ≡ sample_of s saws held }
 {
     let e = reach(s, saws);

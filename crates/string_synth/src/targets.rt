@@ -1,6 +1,8 @@
 // What a call's parameters become before its block starts: the frequency of the saws and the gains that the registration gives them.
-ghost use Rattle.std.specs.Prelude.{◌≡◌, ◌<◌, length};
+ghost use Rattle.std.specs.Prelude.{◌≡◌, ℕ, ◌<◌, length, slice_index_or};
+ghost use Rattle.std.specs.Float.{nan};
 ghost use Rattle.string_synth.specs.Targets.{lowered, placed_at, gain_between, targets_of};
+ghost use Rattle.string_synth.specs.Private.{Entries32};
 
 use crate::sample::Saws;
 
@@ -17,6 +19,7 @@ fn lower(frequency: f32) -> Octave
 {
     let mut f = frequency;
     let mut shift = 0;
+    // A `while`, as in the source: its turns are not counted beforehand, and a `for` would need a `break` for the same test.
     while (f > 0.5) & (shift < 8) {
         shift += 2;
         f = f * 0.5;
@@ -39,6 +42,14 @@ fn placed(registration: &[f32], shift: usize, i: usize) -> f32
     }
 }
 
+// All seven of them.
+fn shifted(registration: &[f32], shift: usize) -> [f32; 7]
+    requires { length registration.now ≡ 7 }
+    ensures { (i : ℕ) → i < 7 → slice_index_or result i nan ≡ placed_at registration.now shift i }
+{
+    std::array::from_fn(|i| placed(registration, shift, i))
+}
+
 // The gain of a saw that has a square below it, lines 88 and 93: its own, less that square's, and twice its own square's. A square is twice the saw of
 // its length less the saw an octave above.
 fn gain_between(saw: f32, below: f32, square: f32, gain: f32) -> f32
@@ -47,22 +58,15 @@ fn gain_between(saw: f32, below: f32, square: f32, gain: f32) -> f32
     (saw - below + 2.0 * square) * gain
 }
 
-// Lines 60 to 100. A registration of another length is refused before.
+// Lines 60 to 100. A registration of another length is refused before. That its entries are binary32 values is told too: the caller has it in a struct,
+// where nothing says so.
 pub(crate) fn targets(frequency: f32, unshifted_registration: &[f32], gain: f32) -> Saws
     requires { length unshifted_registration.now ≡ 7 }
-    ensures { result ≡ targets_of frequency unshifted_registration.now gain }
+    ensures made { result ≡ targets_of frequency unshifted_registration.now gain }
+    ensures entries { Entries32 unshifted_registration.now }
 {
     let octave = lower(frequency * 8.0);
-    let shift = octave.shift;
-    let registration = [
-        placed(unshifted_registration, shift, 0),
-        placed(unshifted_registration, shift, 1),
-        placed(unshifted_registration, shift, 2),
-        placed(unshifted_registration, shift, 3),
-        placed(unshifted_registration, shift, 4),
-        placed(unshifted_registration, shift, 5),
-        placed(unshifted_registration, shift, 6),
-    ];
+    let registration = shifted(unshifted_registration, octave.shift);
     Saws {
         frequency: octave.frequency,
         saw_8_gain: (registration[0] + 2.0 * registration[1]) * gain,

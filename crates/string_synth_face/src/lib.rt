@@ -1,11 +1,13 @@
 // The string synth over lent arrays of 32-bit words, for the face.
 #![tactic(auto)]
 
-ghost use Rattle.std.specs.Prelude.{◌≡◌, cond};
+ghost use Rattle.std.specs.Prelude.{◌≡◌, cond, Some, None, false};
 ghost use Rattle.string_synth_face.specs.Words.{state_of, words_of, init_words, render_face};
 
-use string_synth::State;
+use string_synth::{Parameters, State};
+use words::Words;
 
+// Fields and words in the header's order, and answers by number: the C interface has them so, of each oscillator for itself.
 // Any words are read: the state may lie outside its range.
 fn state_of(w: [u32; 8]) -> State
     ensures { result ≡ state_of w }
@@ -38,12 +40,28 @@ fn words_of(s: State) -> [u32; 8]
     ]
 }
 
-// Words that are not stored stay bit by bit, a NaN in them too.
-fn store(words: &mut [u32; 8], stored: bool, after: [u32; 8])
-    ensures { words.new ≡ cond stored after words.old }
-{
-    if stored {
-        *words = after;
+// The words in the order of the fields.
+struct InOrder;
+
+impl Words<8> for InOrder {
+    type State = State;
+
+    ghost state_of = { state_of };
+
+    ghost words_of = { words_of };
+
+    ghost is_no_state = { λ w. false };
+
+    fn read(w: [u32; 8]) -> Option<State>
+        ensures { result ≡ cond (false) None (Some (state_of w)) }
+    {
+        Some(state_of(w))
+    }
+
+    fn write(s: State) -> [u32; 8]
+        ensures { result ≡ words_of s }
+    {
+        words_of(s)
     }
 }
 
@@ -65,11 +83,10 @@ pub fn render(
 ) -> u32
     ensures { record { answer = result; words = words.new; result = res.new; samples = out.new } ≡ render_face words.old frequency registration.now gain out.old }
 {
-    let r = string_synth::render(state_of(*words), frequency, registration, gain, out);
-    let answer = r.answer;
-    let counts = r.counts;
-    let state = r.state;
-    *res = words::result_of(answer, counts);
-    store(words, words::stores(answer, out.len()), words_of(state));
-    res[0]
+    let parameters = Parameters {
+        frequency,
+        registration,
+        gain,
+    };
+    words::render::<InOrder, _, _>(words, parameters, out, res)
 }

@@ -5,20 +5,11 @@ use lib.Ieee.{Float}
 use Rattle.floats.specs.F32.{half32}
 use Rattle.floats.proofs.Ticks.{tick_pos, half_at}
 use Rattle.floats.proofs.PhaseSteps.{wraps_at_1, phase_sum}
-use Rattle.edges.specs.declared.Edge.{Edge}
-use Rattle.edges.specs.CrossingLoop.{Rises, Falls, Crosses}
+use Rattle.edges.specs.CrossingLoop.{Crosses}
 use Rattle.edges.specs.Private.{Crossable}
 use Rattle.super_square.specs.declared.State.{State}
 use Rattle.super_square.specs.Sample.{rise_of, fall_of, edge_of}
-use Rattle.super_square.specs.Private.{Ready}
-
-pub rises : (slaveFrequency : Float) (e : Edge) → Rises e (rise_of slaveFrequency e)
-unfolding rise_of
-rises f e = record { t = _; phase = refl; high = refl; reset = refl; counts = refl }
-
-pub falls : (slaveFrequency : Float) (e : Edge) → Falls e (fall_of slaveFrequency e)
-unfolding fall_of
-falls f e = record { t = _; phase = refl; high = refl; reset = refl; counts = refl }
+use Rattle.super_square.specs.Private.{Ready, rises, falls}
 
 abbrev pub crosses : Float → Crosses
 crosses f = record { width = half32; rise = rise_of f; fall = fall_of f; rises = rises f; falls = falls f }

@@ -8,7 +8,7 @@ use lib.Ieee.{Float, le}
 use Rattle.floats.specs.F32.{◌⊕◌, ◌⊖◌, ◌⊗◌, ◌⊘◌, zero32, half32, one32}
 use Rattle.polyblep.specs.Polyblep.{this_blep_sample, next_blep_sample}
 use Rattle.block.specs.Counting.{one_if, as_heard}
-use Rattle.block.specs.Play.{Sample}
+use Rattle.block.specs.declared.sample.Sample.{Sample}
 use Rattle.block.specs.Calls.{call_as_heard}
 use Rattle.block.specs.Oscillator.{Oscillator, call_of}
 use Rattle.block.proofs.AsHeard.{sample_as_heard, with_sample, call_as_heard_lem}
@@ -20,7 +20,6 @@ use Rattle.edges.proofs.In01.{risen_of01, fallen_of01, reset_of01}
 use Rattle.edges.proofs.Totals.{every_rise, every_fall}
 use Rattle.edges.proofs.AsHeard.{In01, edge_as_heard, rose_as_heard, fell_as_heard, loop_as_heard, reset_as_heard}
 use Rattle.super_square.specs.declared.State.{State}
-use Rattle.super_square.specs.declared.sample.Sampled.{Sampled}
 use Rattle.super_square.specs.Sample.{level, rise_of, fall_of, edge_of, after, finish, reset_sample, plain_sample, sample_of, sample_at}
 use Rattle.super_square.specs.Block.{Arguments, super_square}
 use Rattle.super_square.proofs.Edges.{crosses}
@@ -49,18 +48,18 @@ crossed01 slaveFrequency e = crossing_loop half32 (rise_of01 slaveFrequency) (fa
 abbrev pub reset_edge01 : State → Float → Float → Edge
 reset_edge01 s slaveFrequency time = reset_of01 half32 level (crossed01 slaveFrequency) s.slave_phase slaveFrequency time (edge_of s slaveFrequency)
 
-unfoldable pub reset_sample01 : State → Float → Float → Float → Sampled
+unfoldable pub reset_sample01 : State → Float → Float → Float → Sample State
 reset_sample01 s masterFrequency slaveFrequency masterPhase =
     let time = reset_time masterPhase masterFrequency in
     let e = reset_edge01 s slaveFrequency time in
     finish e (after e masterPhase (time ⊗ slaveFrequency) false masterFrequency slaveFrequency) 1 (one_if e.high)
 
-unfoldable pub plain_sample01 : State → Float → Float → Float → Sampled
+unfoldable pub plain_sample01 : State → Float → Float → Float → Sample State
 plain_sample01 s masterFrequency slaveFrequency masterPhase =
     let e = crossed01 slaveFrequency (edge_of s slaveFrequency) in
     finish e (after e masterPhase e.phase e.high masterFrequency slaveFrequency) 0 0
 
-unfoldable pub sample_of01 : State → Float → Float → Sampled
+unfoldable pub sample_of01 : State → Float → Float → Sample State
 sample_of01 s masterFrequency slaveFrequency =
     let masterPhase = s.master_phase ⊕ masterFrequency in
     cond (le one32 masterPhase)
@@ -76,7 +75,7 @@ abbrev pub super_square01 : Oscillator State Arguments
 super_square01 = with_sample super_square (λ a. sample_at01)
 
 -- ---- the comparison
-abbrev sampled_as_heard : Sampled → Sampled
+abbrev sampled_as_heard : Sample State → Sample State
 sampled_as_heard t = record { state = t.state; sample = t.sample; counts = as_heard t.counts }
 
 rises_as_heard : (f : Float) (e : Edge) → every_rise e.crossings ≤ 1 → rise_of01 f (edge_as_heard e) ≡ edge_as_heard (rise_of f e)

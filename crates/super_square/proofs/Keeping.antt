@@ -20,14 +20,14 @@ use Rattle.block.proofs.Plays.{one_most, Keeps}
 use Rattle.edges.proofs.CrossingLoop.{Counted, crossed_of}
 use Rattle.edges.proofs.CrossingsReset.{reset_counted}
 use Rattle.super_square.specs.declared.State.{State}
-use Rattle.super_square.specs.declared.sample.Sampled.{Sampled}
+use Rattle.block.specs.declared.sample.Sample.{Sample}
 use Rattle.super_square.specs.Sample.{level, edge_of, finish, reset_edge, reset_sample, plain_sample, sample_of, sample_at}
 use Rattle.super_square.specs.Block.{rooms}
 use Rattle.super_square.specs.Private.{Valid, Ready}
 use Rattle.super_square.proofs.Edges.{crosses, edge_crossable}
 
 -- what one sample does to a master's phase of a units with a step of b, and to all else
-pub record Law (s : State) (masterFrequency slaveFrequency : Float) (a b : ℕ) (t : Sampled) : Type 0 where
+pub record Law (s : State) (masterFrequency slaveFrequency : Float) (a b : ℕ) (t : Sample State) : Type 0 where
   pub master : Step t.state.master_phase t.counts.cycles a b cycle tick cycle
   pub slave : Under t.state.slave_phase cycle
   pub master_frequency : t.state.master_frequency ≡ masterFrequency

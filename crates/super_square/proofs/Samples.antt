@@ -1,56 +1,44 @@
--- A sample of the super square, from its parts: what comes before the crossings, the crossings, and what comes after them; and what is left of it where
--- there is neither a reset nor a crossing, which counts nothing. Assumes nothing.
+-- A sample of the super square, from its parts: the crossings, and what comes after them; and what is left of it where there is neither a reset nor a
+-- crossing, which counts nothing. Assumes nothing.
 use mathlib.Core.Path.{◌≡◌, refl}
 use mathlib.Core.Bool.{Bool, true, false, not, ◌&&◌, cond}
 use borrow.Author.Tests.{not-true}
 use lib.Ieee.{Float, lt, le}
 use Rattle.floats.specs.F32.{◌⊕◌, ◌⊖◌, half32, one32}
-use Rattle.floats.proofs.Bools.{and_both, cond_both}
+use Rattle.floats.proofs.Bools.{and_both}
 use Rattle.block.specs.Counting.{no_counts}
-use Rattle.block.specs.Play.{Sample}
-use Rattle.edges.specs.declared.Edge.{Edge}
-use Rattle.edges.specs.Sync.{reset_of}
-use Rattle.edges.specs.Private.{Crossable}
+use Rattle.block.specs.declared.sample.Sample.{Sample}
 use Rattle.edges.proofs.CrossingLoop.{uncrossed}
-use Rattle.edges.proofs.CrossingsReset.{cut_crossable}
 use Rattle.super_square.specs.declared.State.{State}
-use Rattle.super_square.specs.declared.sample.Start.{Start}
-use Rattle.super_square.specs.declared.sample.End.{End}
-use Rattle.super_square.specs.declared.sample.Sampled.{Sampled}
-use Rattle.super_square.specs.Sample.{edge_of, after, finish, reset_sample, plain_sample, sample_of}
-use Rattle.super_square.specs.Private.{Ready, reset_start, plain_start, begun, crossed_if, end_of}
-use Rattle.super_square.proofs.Edges.{crosses, edge_crossable}
+use Rattle.edges.specs.declared.crossing.Slave.{Slave}
+use Rattle.edges.specs.declared.crossing.Passed.{Passed}
+use Rattle.edges.specs.Synced.{reset_pass, plain_pass, passed_of}
+use Rattle.super_square.specs.Sample.{level, crossed, edge_of, after, finish, reset_sample, plain_sample, sample_of}
+use Rattle.super_square.proofs.Edges.{crosses}
+
+-- the slave, and its step
+abbrev pub slave_of : State → Float → Slave
+slave_of s f = record { phase = s.slave_phase; high = s.high; next_sample = s.next_sample; frequency = f }
 
 module _ (s : State) (masterFrequency slaveFrequency : Float) where
-  -- what follows the start of a sample
-  abbrev ended : Start → Sampled
-  ended b =
-      let e = crossed_if b.crosses slaveFrequency b.edge in
-      let l = end_of b.reset b.restart e in
-      finish e (after e b.master_phase l.slave_phase l.high masterFrequency slaveFrequency) l.cycles l.cuts
+  -- what follows the crossings
+  abbrev ended : Passed → Sample State
+  ended p = finish p.edge (after p.edge p.master_phase p.slave_phase p.high masterFrequency slaveFrequency) p.cycles p.cuts
 
   -- each way is the definition's
   ways : (masterPhase : Float) (wraps : Bool)
-      → ended (cond wraps (reset_start s masterFrequency slaveFrequency (masterPhase ⊖ one32)) (plain_start s slaveFrequency masterPhase))
-      ≡ cond wraps (reset_sample s masterFrequency slaveFrequency (masterPhase ⊖ one32)) (plain_sample s masterFrequency slaveFrequency masterPhase)
-  unfolding reset_start plain_start end_of reset_of reset_sample plain_sample
+      → (let c = crossed slaveFrequency in let v = slave_of s slaveFrequency in
+      ended (cond wraps (reset_pass half32 level c v (masterPhase ⊖ one32) masterFrequency) (plain_pass true c v masterPhase))
+      ≡ cond wraps (reset_sample s masterFrequency slaveFrequency (masterPhase ⊖ one32)) (plain_sample s masterFrequency slaveFrequency masterPhase))
+  unfolding reset_pass plain_pass reset_sample plain_sample
   ways masterPhase true = refl
   ways masterPhase false = refl
 
   -- a sample, from what the functions that it calls ensure
-  pub sample_is : (b : Start) (e : Edge) (l : End) (t : State) (r : Sampled) → b ≡ begun s masterFrequency slaveFrequency → e ≡ crossed_if b.crosses slaveFrequency b.edge
-      → l ≡ end_of b.reset b.restart e → t ≡ after e b.master_phase l.slave_phase l.high masterFrequency slaveFrequency
-      → r ≡ finish e t l.cycles l.cuts → r ≡ sample_of s masterFrequency slaveFrequency
-  unfolding begun sample_of
-  sample_is b e l t r at_b at-e at-l at-t at-r = rw (at-r, at-t, at-l, at-e, at_b) (ways (s.master_phase ⊕ masterFrequency) (le one32 (s.master_phase ⊕ masterFrequency)))
-
-  -- the edge that it starts with, cut by a reset or not
-  pub start_crossable : (b : Start) → b ≡ begun s masterFrequency slaveFrequency → Ready s masterFrequency slaveFrequency → Crossable half32 b.edge
-  unfolding begun reset_start plain_start
-  start_crossable b at_b h =
-      rw at_b
-      (cond_both (λ (b : Start). Crossable half32 b.edge) (le one32 (s.master_phase ⊕ masterFrequency)) _ _
-      (cut_crossable _ _ (edge_crossable h) refl refl) (edge_crossable h))
+  pub sample_is : {p : Passed} {t : State} {r : Sample State} → p ≡ passed_of true half32 level (crossed slaveFrequency) (slave_of s slaveFrequency) (s.master_phase ⊕ masterFrequency) masterFrequency
+      → t ≡ after p.edge p.master_phase p.slave_phase p.high masterFrequency slaveFrequency → r ≡ finish p.edge t p.cycles p.cuts → r ≡ sample_of s masterFrequency slaveFrequency
+  unfolding passed_of sample_of
+  sample_is at-p at-t at-r = rw (at-r, at-t, at-p) (ways (s.master_phase ⊕ masterFrequency) (le one32 (s.master_phase ⊕ masterFrequency)))
 
 -- a sample with no reset and no crossing, from the tests as one
 module _ (s : State) (masterFrequency slaveFrequency : Float)
@@ -63,7 +51,7 @@ module _ (s : State) (masterFrequency slaveFrequency : Float)
       rw (not-true (le one32 (s.master_phase ⊕ masterFrequency)) n.0, uncrossed (crosses slaveFrequency) (edge_of s slaveFrequency) s.high refl n.1)
 
   -- nothing is counted
-  pub quiet_made : {t : Sampled} → t ≡ sample_of s masterFrequency slaveFrequency
+  pub quiet_made : {t : Sample State} → t ≡ sample_of s masterFrequency slaveFrequency
       → ◌≡◌ {A = Sample State} (record { state = t.state; sample = t.sample; counts = no_counts }) (record { state = t.state; sample = t.sample; counts = t.counts })
   unfolding finish
   quiet_made e = rw (e, sample_quiet)

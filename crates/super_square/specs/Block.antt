@@ -1,6 +1,6 @@
 -- The super square as an oscillator of `block`: super_square_oscillator.rs, lines 38 to 132, with 01's checks before it. Assumes nothing.
 use Rattle.block.specs.Checks.{◌unless◌}
-use Rattle.std.specs.Prelude.{Bool, cond, List, [], ◌∷◌, ℕ, length, Float}
+use Rattle.std.specs.Prelude.{Bool, cond, List, [], ◌∷◌, ℕ, length, Float, Result}
 use Rattle.std.specs.Float.Ieee.{lt}
 use Rattle.floats.specs.F32.{◌⊕◌, ◌⊖◌, ◌⊗◌, f32, half32, one32, sixteen32}
 use Rattle.parameter_interpolator.specs.declared.ParameterInterpolator.{ParameterInterpolator}
@@ -9,10 +9,11 @@ use Rattle.rooms.specs.declared.Room.{Room}
 use Rattle.rooms.specs.declared.Room.TheVariants.{Frequency}
 use Rattle.ranges.specs.Targets.{clipped}
 use Rattle.ranges.specs.Ranges.{phase_in, frequency_in, parameter_frequency_in, unit_in, all_of}
+use Rattle.block.specs.declared.Counts.{Counts}
+use Rattle.block.specs.declared.refusal.Refusal.{Refusal}
 use Rattle.block.specs.Calls.{Call, gave}
 use Rattle.block.specs.Oscillator.{Oscillator, call_of}
 use Rattle.super_square.specs.declared.State.{State}
-use Rattle.super_square.specs.declared.Rendered.{Rendered}
 use Rattle.super_square.specs.Sample.{sample_at}
 
 -- 01, "State": phases at least 0 and below 1, frequencies 0 to 17/64, `next_sample` any bits
@@ -70,6 +71,6 @@ super_square = record {
 abbrev pub render_of : State → Float → Float → List Float → Call State
 render_of s frequency shape xs = call_of super_square s (record { frequency = frequency; shape = shape; buffer = xs })
 
--- what a call returned and left in the buffer, in 01's numbers
-abbrev pub as_call : Rendered → List Float → Call State
-as_call r xs = gave r.answer r.state r.counts xs
+-- what a call returned, and left in the state and in the buffer, in 01's numbers
+abbrev pub as_call : Result Counts Refusal → State → List Float → Call State
+as_call = gave

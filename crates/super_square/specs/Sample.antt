@@ -8,9 +8,8 @@ use Rattle.block.specs.Counting.{one_if}
 use Rattle.edges.specs.Counted.{start_of, risen_of, fallen_of, counts_of}
 use Rattle.edges.specs.CrossingLoop.{crossing_loop}
 use Rattle.edges.specs.Sync.{reset_time, reset_of}
-use Rattle.block.specs.Play.{Sample}
+use Rattle.block.specs.declared.sample.Sample.{Sample}
 use Rattle.super_square.specs.declared.State.{State}
-use Rattle.super_square.specs.declared.sample.Sampled.{Sampled}
 
 -- the square, lines 90 and 127
 abbrev pub level : Float → Float
@@ -60,7 +59,7 @@ after e masterPhase slavePhase high masterFrequency slaveFrequency = record {
 }
 
 -- the end of a sample: the state after it, what is put out (line 128), and the counts
-unfoldable pub finish : Edge → State → ℕ → ℕ → Sampled
+unfoldable pub finish : Edge → State → ℕ → ℕ → Sample State
 finish e s cycles cuts = record {
   state = s;
   sample = two32 ⊗ e.this_sample ⊖ one32;
@@ -68,20 +67,20 @@ finish e s cycles cuts = record {
 }
 
 -- with a reset, lines 73 to 93 and 122 to 125. 01 counts a cut where it finds `high` true just before clearing it.
-unfoldable pub reset_sample : State → Float → Float → Float → Sampled
+unfoldable pub reset_sample : State → Float → Float → Float → Sample State
 reset_sample s masterFrequency slaveFrequency masterPhase =
     let time = reset_time masterPhase masterFrequency in
     let e = reset_edge s slaveFrequency time in
     finish e (after e masterPhase (time ⊗ slaveFrequency) false masterFrequency slaveFrequency) 1 (one_if e.high)
 
 -- without one, lines 95 to 120
-unfoldable pub plain_sample : State → Float → Float → Float → Sampled
+unfoldable pub plain_sample : State → Float → Float → Float → Sample State
 plain_sample s masterFrequency slaveFrequency masterPhase =
     let e = crossed slaveFrequency (edge_of s slaveFrequency) in
     finish e (after e masterPhase e.phase e.high masterFrequency slaveFrequency) 0 0
 
 -- lines 68 to 74, for the steps of both frequencies: the master's phase moves, and where it has come to 1 it wraps and resets the slave
-unfoldable pub sample_of : State → Float → Float → Sampled
+unfoldable pub sample_of : State → Float → Float → Sample State
 sample_of s masterFrequency slaveFrequency =
     let masterPhase = s.master_phase ⊕ masterFrequency in
     cond (le one32 masterPhase)

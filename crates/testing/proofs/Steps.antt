@@ -1,68 +1,69 @@
--- One byte of a text, one word of a checksum, and the words past the end of a record. Assumes nothing.
-use mathlib.Core.Path.{◌≡◌, sym}
-use mathlib.Core.List.{List}
-use Prim.Native.Nat.{ℕ, ◌+◌, ◌≤◌, ◌<◌}
-use native.Mathlib.Numerals.{add-one}
-use native.Mathlib.Omega.{arith}
-use lib.ListN.{length, get_or, drop, drop_of_length-le, get_or-eq_default}
-use lib.Seq.{drop-cons}
-use lib.Ieee.{Float, binary32, to_bits}
-use Rattle.testing.specs.Words.{word_at}
-use Rattle.testing.specs.Text.{Line, byte_of, put_of, word_text, after_of, words_of}
-use Rattle.testing.specs.Sums.{next_sum, sum_from, bits_of}
+-- A line that takes one text more, and the words and digits that it is given. Assumes nothing.
+use Rattle.std.proofs.Common.{◌≡◌, Bool, true, refl, ◌∙◌, ap, ℕ, zero, suc, ◌+◌, ◌^◌, ◌≤◌, ◌<◌, ◌-◌, min, List, [], ◌∷◌, ◌++◌, length, take, drop, get_or, arith, append_assoc, add-one, drop-cons}
+use native.Mathlib.Nat.{pow-le-pow_right, div-div-eq-div-mul}
+use lib.ListN.{drop_of_length-le}
+use Rattle.std.proofs.Math.Seq.{take-append-add}
+use Rattle.std.proofs.lemmas.Grind.{common_steps}
+use Rattle.io.specs.Digits.{last_digits, IsDigitCount}
+use Rattle.testing.specs.Text.{byte_of, put_of, word_text, after_of, words_of}
+use Rattle.testing.specs.Turns.{Taken}
 
-module _ (bytes : List ℕ) (at : ℕ) (h : length bytes ≤ at) where
-  pub byte_past : 0 ≡ get_or bytes at 0
-  byte_past = sym (get_or-eq_default bytes 0 h)
+-- as much of a text as fits
+pub put_fitting : (room left fitting : ℕ) (line text : List ℕ) → left + length line ≡ room → fitting ≡ min (length text) left → line ++ take fitting text ≡ put_of room text line
+put_fitting room left fitting line text h k = let e = take-append-add line text left in grind (arith, common_steps)
 
-  pub word_past : 0 ≡ word_at bytes at
-  word_past = rw (
-    get_or-eq_default bytes 0 h,
-    get_or-eq_default bytes 0 {n = at + 1} (omega arith),
-    get_or-eq_default bytes 0 {n = at + 2} (omega arith),
-    get_or-eq_default bytes 0 {n = at + 3} (omega arith),
-  )
+take_twice : (room : ℕ) (one two : List ℕ) → take room (take room one ++ two) ≡ take room (one ++ two)
+take_twice zero one two = refl
+take_twice (suc room) [] two = refl
+take_twice (suc room) (x ∷ one) two = ap (λ xs. x ∷ xs) (take_twice room one two)
 
-module _ (text : List ℕ) (i : ℕ) (l : Line) where
-  pub put_more : i < length text → put_of (drop i text) l ≡ put_of (drop (i + 1) text) (byte_of (get_or text i 0) l)
-  unfolding put_of
-  put_more h = rw (drop-cons text i 0 h, add-one)
+-- a text after another is the two as one
+put_twice : (room : ℕ) (line one two : List ℕ) → put_of room two (put_of room one line) ≡ put_of room (one ++ two) line
+put_twice room line one two = take_twice room (line ++ one) two ∙ ap (take room) (append_assoc line one two)
 
-  pub put_end : length text ≤ i → put_of (drop i text) l ≡ l
-  unfolding put_of
-  put_end h = rw (drop_of_length-le text {i = i} h)
+pow_grows : (i j : ℕ) → i ≤ j → 16 ^ i ≤ 16 ^ j
+pow_grows i j h = pow-le-pow_right (omega arith) h
 
--- what stands after word i
-module _ (words : List ℕ) (i last : ℕ) where
-  pub after_one : i + 1 < length words → 32 ≡ after_of (drop (i + 1) words) last
-  after_one h = rw (drop-cons words (i + 1) 0 h)
+-- eight digits of a word
+module _ (places word : ℕ) (h : IsDigitCount 16 8 word places) (k : word < 2 ^ 32) where
+  no_more : 8 < places → ⊥
+  no_more e = omega (arith, h.2 e, pow_grows 8 (places - 1) (omega arith), k)
 
-  pub after_last : length words ≤ i + 1 → last ≡ after_of (drop (i + 1) words) last
-  after_last h = rw (drop_of_length-le words {i = i + 1} h)
+  eight : places ≡ 8
+  eight = omega (arith, h.0, no_more)
 
-  module _ (l : Line) where
-    pub words_more : i < length words → words_of (drop i words) last l ≡ words_of (drop (i + 1) words) last (put_of (word_text (get_or words i 0) (after_of (drop (i + 1) words) last)) l)
-    unfolding words_of
-    words_more h = rw (drop-cons words i 0 h, add-one)
+eight_digits : (word after : ℕ) → last_digits 16 8 word ++ after ∷ [] ≡ word_text word after
+eight_digits word after = simp div-div-eq-div-mul refl
 
-    pub words_end : length words ≤ i → words_of (drop i words) last l ≡ l
-    unfolding words_of
-    words_end h = rw (drop_of_length-le words {i = i} h)
+pub word_put : (room places word after : ℕ) (line : List ℕ) → IsDigitCount 16 8 word places → word < 2 ^ 32 → byte_of room after (put_of room (last_digits 16 places word) line) ≡ put_of room (word_text word after) line
+word_put room places word after line h k =
+    rw (eight places word h k) (put_twice room line (last_digits 16 8 word) (after ∷ []) ∙ ap (λ text. put_of room text line) (eight_digits word after))
 
-module _ (words : List ℕ) (i sum : ℕ) where
-  pub sum_more : i < length words → sum_from sum (drop i words) ≡ sum_from (next_sum sum (get_or words i 0)) (drop (i + 1) words)
-  unfolding sum_from
-  sum_more h = rw (drop-cons words i 0 h, add-one)
+-- a word before the last one, and the last one
+after_more : (rest : List ℕ) (end last : ℕ) → after_of (rest ++ end ∷ []) last ≡ 32
+after_more [] end last = refl
+after_more (word ∷ rest) end last = refl
 
-  pub sum_end : length words ≤ i → sum_from sum (drop i words) ≡ sum
-  unfolding sum_from
-  sum_end h = rw (drop_of_length-le words {i = i} h)
+module _ (room last end : ℕ) (before : List ℕ) (i : ℕ) (line : List ℕ) where
+  pub words_more : i < length before → words_of room (drop i before ++ end ∷ []) last line ≡ words_of room (drop (i + 1) before ++ end ∷ []) last (put_of room (word_text (get_or before i 0) 32) line)
+  unfolding words_of
+  words_more h =
+      rw (drop-cons before i 0 h, add-one) (ap (λ after. words_of room (drop (suc i) before ++ end ∷ []) last (put_of room (word_text (get_or before i 0) after) line)) (after_more (drop (suc i) before) end last))
 
-module _ (xs : List Float) (i sum : ℕ) where
-  pub checksum_more : (z : Float) → i < length xs → sum_from sum (bits_of (drop i xs)) ≡ sum_from (next_sum sum (to_bits binary32 (get_or xs i z))) (bits_of (drop (i + 1) xs))
-  unfolding sum_from
-  checksum_more z h = rw (drop-cons xs i z h, add-one)
+  pub words_end : length before ≤ i → words_of room (drop i before ++ end ∷ []) last line ≡ put_of room (word_text end last) line
+  unfolding words_of
+  words_end h = rw (drop_of_length-le before {i = i} h)
 
-  pub checksum_end : length xs ≤ i → sum_from sum (bits_of (drop i xs)) ≡ sum
-  unfolding sum_from
-  checksum_end h = rw (drop_of_length-le xs {i = i} h)
+-- no word
+pub words_none : (room last : ℕ) (words line : List ℕ) → length words ≡ 0 → line ≡ words_of room words last line
+unfolding words_of
+words_none room last [] line h = refl
+words_none room last (word ∷ rest) line h = absurd (omega (arith, h))
+
+-- a turn more
+taken_suc : {F : Type 0} (step : F → Bool → F → Type 0) (n : ℕ) (first left next : F) → Taken step n first left → step left true next → Taken step (suc n) first next
+taken_suc step zero first left next h k = (next, rw h k, refl)
+taken_suc step (suc n) first left next (mid, one, rest) k = (mid, one, taken_suc step n mid left next rest k)
+
+pub taken_more : {F : Type 0} (step : F → Bool → F → Type 0) (n : ℕ) (first left next : F) → Taken step n first left → step left true next → Taken step (n + 1) first next
+taken_more step n first left next h k = rw add-one (taken_suc step n first left next h k)

@@ -1,18 +1,14 @@
 -- The checksum of words: the digits of a number to the base 1,000,003, modulo the largest prime below 2^32. Assumes nothing.
-use Rattle.std.specs.Prelude.{List, [], ◌∷◌, map, ℕ, ◌+◌, ◌*◌, ◌%◌, Float}
+use Rattle.std.specs.Prelude.{List, map, ℕ, ◌+◌, ◌*◌, ◌%◌, Float}
+use Rattle.std.specs.List.{fold}
 use Rattle.std.specs.Float.{binary32}
 use Rattle.std.specs.Float.Ieee.{to_bits}
 
 abbrev pub next_sum : ℕ → ℕ → ℕ
 next_sum sum word = (sum * 1000003 + word) % 4294967291
 
--- from a sum of those before them
-unfoldable pub sum_from : ℕ → List ℕ → ℕ
-sum_from sum [] = sum
-sum_from sum (word ∷ rest) = sum_from (next_sum sum word) rest
-
 abbrev pub sum_of : List ℕ → ℕ
-sum_of words = sum_from 0 words
+sum_of words = fold next_sum 0 words
 
 -- of samples it is that of their bits; a NaN's are 7fc00000
 abbrev pub bits_of : List Float → List ℕ

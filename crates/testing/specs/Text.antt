@@ -1,21 +1,13 @@
--- A line of text in the making: bytes go to a buffer one after the other, and what it has no room for is left out. Assumes nothing.
-use Rattle.std.specs.Prelude.{◌≡◌, cond, List, [], ◌∷◌, ℕ, ◌+◌, ◌/◌, ◌%◌, ltb, length, set}
+-- A line of text in the making: bytes are put after those that stand there, and what it has no room for is left out. Assumes nothing.
+use Rattle.std.specs.Prelude.{◌≡◌, List, [], ◌∷◌, ◌++◌, ℕ, ◌/◌, ◌%◌, take}
 use Rattle.io.specs.Digits.{hex_digit_ascii, last_digits, IsDigitCount}
 
--- the buffer, and the place after the text that stands there
-pub record Line : Type 0 where
-  pub end : ℕ
-  pub buffer : List ℕ
+-- a text put into a line that has room for so many bytes in all
+abbrev pub put_of : ℕ → List ℕ → List ℕ → List ℕ
+put_of room text line = take room (line ++ text)
 
-abbrev pub line : ℕ → List ℕ → Line
-line end buffer = record { end = end; buffer = buffer }
-
-abbrev pub byte_of : ℕ → Line → Line
-byte_of byte l = cond (ltb l.end (length l.buffer)) (line (l.end + 1) (set l.buffer l.end byte)) l
-
-unfoldable pub put_of : List ℕ → Line → Line
-put_of [] l = l
-put_of (byte ∷ rest) l = put_of rest (byte_of byte l)
+abbrev pub byte_of : ℕ → ℕ → List ℕ → List ℕ
+byte_of room byte line = put_of room (byte ∷ []) line
 
 -- eight hexadecimal digits, and the byte after them
 abbrev pub word_text : ℕ → ℕ → List ℕ
@@ -36,12 +28,12 @@ abbrev pub after_of : List ℕ → ℕ → ℕ
 after_of [] last = last
 after_of (word ∷ rest) last = 32
 
-unfoldable pub words_of : List ℕ → ℕ → Line → Line
-words_of [] last l = l
-words_of (word ∷ rest) last l = words_of rest last (put_of (word_text word (after_of rest last)) l)
+unfoldable pub words_of : ℕ → List ℕ → ℕ → List ℕ → List ℕ
+words_of room [] last line = line
+words_of room (word ∷ rest) last line = words_of room rest last (put_of room (word_text word (after_of rest last)) line)
 
 -- a number in decimal with the fewest digits, at least one, and the byte after them: what a line becomes
-pub record Numbered (number after : ℕ) (before now : Line) : Type 0 where
+pub record Numbered (room number after : ℕ) (before now : List ℕ) : Type 0 where
   pub places : ℕ
   pub fewest : IsDigitCount 10 1 number places
-  pub same : now ≡ byte_of after (put_of (last_digits 10 places number) before)
+  pub same : now ≡ byte_of room after (put_of room (last_digits 10 places number) before)

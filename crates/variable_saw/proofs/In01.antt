@@ -8,7 +8,7 @@ use Rattle.floats.specs.F32.{◌⊕◌, ◌⊖◌, ◌⊗◌, ◌⊘◌, zero32,
 use Rattle.polyblep.specs.Polyblep.{this_blep_sample, next_blep_sample, this_integrated_blep_sample, next_integrated_blep_sample}
 use Rattle.block.specs.Counting.{as_heard}
 use Rattle.block.specs.Limits.{NoneLate}
-use Rattle.block.specs.Play.{Sample}
+use Rattle.block.specs.declared.sample.Sample.{Sample}
 use Rattle.block.specs.Oscillator.{Oscillator, call_of}
 use Rattle.block.proofs.Oscillators.{call_none_late}
 use Rattle.block.proofs.AsHeard.{sample_as_heard, with_sample, call_unchanged}
@@ -17,7 +17,6 @@ use Rattle.edges.specs.Triangle.{triangle_step, rise_time}
 use Rattle.edges.proofs.In01.{risen_of01, wrapped_of01}
 use Rattle.variable_saw.specs.declared.State.{State}
 use Rattle.variable_saw.specs.declared.sample.Wave.{Wave}
-use Rattle.variable_saw.specs.declared.sample.Sampled.{Sampled}
 use Rattle.variable_saw.specs.Sample.{notch_depth, wave_of, rise_of, wrap_of, edge_of, finish, sample_of, sample_at}
 use Rattle.variable_saw.specs.Block.{Arguments, variable_saw}
 
@@ -43,7 +42,7 @@ wrap_of01 w frequency e =
     (e.next_sample ⊖ notch ⊗ next_blep_sample t ⊕ step ⊗ next_integrated_blep_sample t)
     e
 
-unfoldable pub sample_of01 : State → Float → Float → Float → Sampled
+unfoldable pub sample_of01 : State → Float → Float → Float → Sample State
 sample_of01 s frequency pw waveshape =
     let w = wave_of pw waveshape in
     let e = edge_of s frequency in
@@ -61,7 +60,7 @@ variable_saw01 = with_sample variable_saw (λ a. sample_at01)
 
 -- ---- the comparison
 -- what 01's sample and today's come to: nothing late, and the same with the late ones added back
-record Same (old new : Sampled) : Type 0 where
+record Same (old new : Sample State) : Type 0 where
   none : NoneLate new.counts
   same : old ≡ record { state = new.state; sample = new.sample; counts = as_heard new.counts }
 

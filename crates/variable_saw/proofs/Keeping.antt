@@ -24,7 +24,7 @@ use Rattle.rooms.proofs.RangeLaws.{frequency_step, step_frequency, width_unit}
 use Rattle.edges.specs.declared.Edge.{Edge}
 use Rattle.variable_saw.specs.declared.State.{State}
 use Rattle.variable_saw.specs.declared.sample.Wave.{Wave}
-use Rattle.variable_saw.specs.declared.sample.Sampled.{Sampled}
+use Rattle.block.specs.declared.sample.Sample.{Sample}
 use Rattle.variable_saw.specs.Sample.{wave_of, rise_of, wrap_of, edge_of, finish, sample_of, sample_at}
 use Rattle.variable_saw.specs.Block.{rooms}
 use Rattle.variable_saw.specs.Private.{reach, Valid}
@@ -44,7 +44,7 @@ pub record Stored (frequency pw waveshape : Float) (s : State) : Type 0 where
   pub waveshape_is : s.waveshape ≡ waveshape
 
 -- what one sample does to a phase of a units with a step of b, and to all else
-pub record Law (s : State) (frequency pw waveshape : Float) (a b : ℕ) (t : Sampled) : Type 0 where
+pub record Law (s : State) (frequency pw waveshape : Float) (a b : ℕ) (t : Sample State) : Type 0 where
   pub phase : Step t.state.phase t.counts.cycles a b cycle tick (reach t.state.high)
   pub stored : Stored frequency pw waveshape t.state
   pub rises : all_rises t.counts ≤ 1
@@ -82,7 +82,7 @@ module _ (s : State) (frequency pw waveshape : Float) (h : Ready s frequency pw 
   abbrev rose : Edge
   rose = rise_of w frequency s.previous_pw e
 
-  abbrev Meets : Sampled → Type 0
+  abbrev Meets : Sample State → Type 0
   Meets t = Law s frequency pw waveshape h.valid.phase.n h.step.n t
 
   stored : (cycles : ℕ) (a : Edge) → Stored frequency pw waveshape (finish w frequency cycles a).state

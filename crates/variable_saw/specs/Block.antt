@@ -1,6 +1,6 @@
 -- The variable saw as an oscillator of `block`: variable_saw_oscillator.rs, lines 44 to 111, with 01's checks before it. Assumes nothing.
 use Rattle.block.specs.Checks.{◌unless◌}
-use Rattle.std.specs.Prelude.{Bool, cond, List, [], ◌∷◌, ℕ, length, Float}
+use Rattle.std.specs.Prelude.{Bool, cond, List, [], ◌∷◌, ℕ, length, Float, Result}
 use Rattle.floats.specs.F32.{zero32, top_sum}
 use Rattle.parameter_interpolator.specs.declared.ParameterInterpolator.{ParameterInterpolator}
 use Rattle.parameter_interpolator.specs.Interpolator.{new_interpolator}
@@ -8,10 +8,11 @@ use Rattle.rooms.specs.declared.Room.{Room}
 use Rattle.rooms.specs.declared.Room.TheVariants.{Frequency, PulseWidth, Waveshape}
 use Rattle.ranges.specs.Targets.{clipped, clamped_width}
 use Rattle.ranges.specs.Ranges.{within, phase_in, frequency_in, parameter_frequency_in, unit_in, waveshape_in, all_of}
+use Rattle.block.specs.declared.Counts.{Counts}
+use Rattle.block.specs.declared.refusal.Refusal.{Refusal}
 use Rattle.block.specs.Calls.{Call, gave}
 use Rattle.block.specs.Oscillator.{Oscillator, call_of}
 use Rattle.variable_saw.specs.declared.State.{State}
-use Rattle.variable_saw.specs.declared.Rendered.{Rendered}
 use Rattle.variable_saw.specs.Sample.{sample_at}
 
 -- 01, "State": the phase is at least 0, and below 1 when `high` is false, at most 81/64 when it is true
@@ -69,6 +70,6 @@ variable_saw = record {
 abbrev pub render_of : State → Float → Float → Float → List Float → Call State
 render_of s frequency pw waveshape xs = call_of variable_saw s (record { frequency = frequency; pw = pw; waveshape = waveshape; buffer = xs })
 
--- what a call returned and left in the buffer, in 01's numbers
-abbrev pub as_call : Rendered → List Float → Call State
-as_call r xs = gave r.answer r.state r.counts xs
+-- what a call returned, and left in the state and in the buffer, in 01's numbers
+abbrev pub as_call : Result Counts Refusal → State → List Float → Call State
+as_call = gave

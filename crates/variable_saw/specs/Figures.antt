@@ -2,7 +2,7 @@
 use Rattle.std.specs.Prelude.{◌≡◌, false, Float}
 use Rattle.floats.specs.F32.{◌⊕◌, f32, zero32, half32}
 use Rattle.variable_saw.specs.declared.State.{State}
-use Rattle.variable_saw.specs.declared.sample.Sampled.{Sampled}
+use Rattle.block.specs.declared.sample.Sample.{Sample}
 use Rattle.edges.specs.Triangle.{rise_time}
 use Rattle.variable_saw.specs.Sample.{sample_of}
 
@@ -11,7 +11,7 @@ abbrev pub steady_saw : Float → Float → Float → State
 steady_saw phase step width = record { phase = phase; next_sample = zero32; previous_pw = width; high = false; frequency = step; pw = width; waveshape = zero32 }
 
 -- one sample more of it
-abbrev pub steady_sample : Float → Float → State → Sampled
+abbrev pub steady_sample : Float → Float → State → Sample State
 steady_sample step width s = sample_of s step width zero32
 
 -- the t of a rise in it

@@ -3,14 +3,11 @@
 use Rattle.std.specs.Prelude.{◌≡◌, Bool, true, false, List, [], ◌∷◌, ℕ, suc, ◌*◌, Float}
 use Rattle.floats.proofs.Ticks.{tick, cycle}
 use Rattle.floats.proofs.Ranges.{Under}
-use Rattle.block.specs.declared.Answer.{Answer}
-use Rattle.block.specs.Counting.{no_counts}
 use Rattle.ranges.specs.Ranges.{frequency_in, unit_in, waveshape_in}
 use Rattle.ranges.specs.Targets.{clipped, clamped_width}
 use Rattle.rooms.specs.declared.Room.TheVariants.{Frequency, PulseWidth, Waveshape}
 use Rattle.rooms.proofs.Guard.{Course}
 use Rattle.variable_saw.specs.declared.State.{State}
-use Rattle.variable_saw.specs.declared.Rendered.{Rendered}
 
 -- what the phase stays below: 1 when `high` is false; when it is true, the next number of units after 81/64
 abbrev pub reach : Bool → ℕ
@@ -32,6 +29,3 @@ courses s frequency pw waveshape =
     ∷ record { room = PulseWidth; value = s.pw; target = clamped_width (clipped frequency) pw }
     ∷ record { room = Waveshape; value = s.waveshape; target = waveshape }
     ∷ []
-
-abbrev pub refused : Answer → State → Rendered
-refused answer s = record { answer = answer; state = s; counts = no_counts }

@@ -6,10 +6,9 @@ use Rattle.polyblep.specs.Polyblep.{this_blep_sample, next_blep_sample, this_int
 use Rattle.edges.specs.declared.Edge.{Edge}
 use Rattle.edges.specs.Triangle.{triangle, triangle_step, rise_time}
 use Rattle.edges.specs.Counted.{start_of, risen_of, wrapped_of, counts_of}
-use Rattle.block.specs.Play.{Sample}
+use Rattle.block.specs.declared.sample.Sample.{Sample}
 use Rattle.variable_saw.specs.declared.State.{State}
 use Rattle.variable_saw.specs.declared.sample.Wave.{Wave}
-use Rattle.variable_saw.specs.declared.sample.Sampled.{Sampled}
 
 -- 0.2, the source's VARIABLE_SAW_NOTCH_DEPTH, line 11
 abbrev pub notch_depth : Float
@@ -64,7 +63,7 @@ edge_of s frequency = start_of (s.phase ⊕ frequency) s.high s.next_sample
 
 -- The end of a sample, lines 97 to 107, and 110 for what the next one starts with. The source stores frequency, width and waveshape as it drops their interpolators, and what it
 -- stores is the last step.
-unfoldable pub finish : Wave → Float → ℕ → Edge → Sampled
+unfoldable pub finish : Wave → Float → ℕ → Edge → Sample State
 finish w frequency cycles e = record {
   state = record {
     phase = e.phase;
@@ -80,7 +79,7 @@ finish w frequency cycles e = record {
 }
 
 -- the two tests, lines 76 and 85: a rise or else a wrap, never both
-unfoldable pub sample_of : State → Float → Float → Float → Sampled
+unfoldable pub sample_of : State → Float → Float → Float → Sample State
 sample_of s frequency pw waveshape =
     let w = wave_of pw waveshape in
     let e = edge_of s frequency in

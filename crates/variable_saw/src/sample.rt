@@ -4,19 +4,14 @@ ghost use Rattle.floats.specs.F32.{◌⊕◌, ◌⊖◌, ◌⊗◌, ◌⊘◌, o
 ghost use Rattle.variable_saw.specs.Sample.{wave_of, notch_depth, notch_saw, naive, rise_of, wrap_of, edge_of, finish as finished, sample_of};
 
 use crate::State;
-use block::Counts;
+use crate::steps::Steps;
+use block::Sample;
 use edges::{Edge, triangle};
 
 const VARIABLE_SAW_NOTCH_DEPTH: f32 = 0.2;
 
-#[derive(Clone, Copy)]
-pub struct Sampled {
-    pub sample: f32,
-    pub state: State,
-    pub counts: Counts,
-}
-
-// The waveform of one sample, from its steps of pulse width and waveshape.
+// The waveform of one sample, from its steps of pulse width and waveshape. The frequency goes beside it, as in specs/: it does
+// not show in the waveform.
 #[derive(Clone, Copy)]
 pub struct Wave {
     pub pw: f32,
@@ -28,15 +23,15 @@ pub struct Wave {
 
 impl Wave {
     // Lines 69 to 72. A slope is an infinity where the width is 0 or 1; a width in its room is neither.
-    fn new(pw: f32, waveshape: f32) -> Self
-        ensures { result ≡ wave_of pw waveshape }
+    fn new(steps: Steps) -> Self
+        ensures { result ≡ wave_of steps.pw steps.waveshape }
     {
         Wave {
-            pw,
-            slope_up: 1.0 / pw,
-            slope_down: 1.0 / (1.0 - pw),
-            triangle_amount: waveshape,
-            notch_amount: 1.0 - waveshape,
+            pw: steps.pw,
+            slope_up: 1.0 / steps.pw,
+            slope_down: 1.0 / (1.0 - steps.pw),
+            triangle_amount: steps.waveshape,
+            notch_amount: 1.0 - steps.waveshape,
         }
     }
 }
@@ -106,10 +101,10 @@ pub(crate) fn put_out(this_sample: f32) -> f32
 }
 
 // The end of a sample, lines 97 to 107: what the next one starts with gets the waveform.
-fn finish(e: Edge, w: Wave, frequency: f32, cycles: u32) -> Sampled
+fn finish(e: Edge, w: Wave, frequency: f32, cycles: u32) -> Sample<State>
     ensures { result ≡ finished w frequency cycles e }
 {
-    Sampled {
+    Sample {
         state: State {
             phase: e.phase,
             next_sample: e.next_sample + compute_naive_sample(e.phase, w),
@@ -125,12 +120,13 @@ fn finish(e: Edge, w: Wave, frequency: f32, cycles: u32) -> Sampled
 }
 
 // Lines 76 and 85: a rise or else a wrap, never both. Cycles are the wraps, and there is no sync, so no cuts.
-pub(crate) fn sample(s: State, frequency: f32, pw: f32, waveshape: f32) -> Sampled
-    ensures { result ≡ sample_of s frequency pw waveshape }
+pub(crate) fn sample(s: State, steps: Steps) -> Sample<State>
+    ensures { result ≡ sample_of s steps.frequency steps.pw steps.waveshape }
 {
-    let w = Wave::new(pw, waveshape);
+    let frequency = steps.frequency;
+    let w = Wave::new(steps);
     let e = edge(s, frequency);
-    if !e.high & (e.phase >= pw) {
+    if !e.high & (e.phase >= steps.pw) {
         finish(rise(e, w, frequency, s.previous_pw), w, frequency, 0)
     } else if e.phase >= 1.0 {
         finish(wrap(e, w, frequency), w, frequency, 1)

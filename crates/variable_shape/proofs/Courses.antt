@@ -17,9 +17,10 @@ use Rattle.ranges.proofs.TargetRanges.{clipped_fits, frequency_target_lem, width
 use Rattle.rooms.specs.declared.Room.TheVariants.{ModulationOrGain}
 use Rattle.rooms.specs.declared.Glides.{Glides}
 use Rattle.rooms.proofs.Kept.{twelve32}
-use Rattle.rooms.proofs.Guard.{rooms_of, glides_of, AllPresumed}
+use Rattle.rooms.proofs.Guard.{rooms_of, starts_of, glides_of, AllPresumed}
 use Rattle.variable_shape.specs.declared.State.{State}
-use Rattle.variable_shape.specs.Block.{state_in, parameters_in, rooms}
+use Rattle.variable_shape.specs.declared.Parameters.{Parameters}
+use Rattle.variable_shape.specs.Block.{state_in, parameters_in, interpolators, rooms}
 use Rattle.variable_shape.specs.Private.{courses}
 
 -- 8 is no more than 12, which a gain may be sent to
@@ -30,14 +31,18 @@ eight_twelve = refl
 modulation_target : (x : Float) → within (neg eight32) eight32 x ≡ true → within (neg eight32) twelve32 x ≡ true
 modulation_target x h = let p = and_both (le (neg eight32) x) (le x eight32) h in rw (p.0, le_trans x eight32 twelve32 p.1 eight_twelve)
 
-module _ (s : State) (masterFrequency frequency pw waveshape phaseModulation : Float) where
-  pub course_rooms : (on : Bool) → rooms on ≡ rooms_of (courses s masterFrequency frequency pw waveshape phaseModulation on)
+module _ (s : State) (p : Parameters) where
+  pub course_rooms : (on : Bool) → rooms on ≡ rooms_of (courses s p on)
   course_rooms true = refl
   course_rooms false = refl
 
+  pub course_starts : (n : ℕ) (on : Bool) → starts_of n (courses s p on) ≡ interpolators s p.master_frequency p.frequency p.pw p.waveshape p.phase_modulation on n
+  course_starts n true = refl
+  course_starts n false = refl
+
   -- where phase modulation takes no steps, its interpolator stands in a place that is not used, and its test asks nothing
-  pub course_glides : (n : ℕ) (on : Bool) {g : Glides} → g ≡ glides_of n (courses s masterFrequency frequency pw waveshape phaseModulation true) []
-      → g ≡ glides_of n (courses s masterFrequency frequency pw waveshape phaseModulation on) (cond on [] (new_interpolator s.phase_modulation phaseModulation n ∷ []))
+  pub course_glides : (n : ℕ) (on : Bool) {g : Glides} → g ≡ glides_of n (courses s p true) []
+      → g ≡ glides_of n (courses s p on) (cond on [] (new_interpolator s.phase_modulation p.phase_modulation n ∷ []))
   unfolding all_of
   course_glides n true e = e
   course_glides n false e = e
@@ -49,34 +54,33 @@ module _ (s : State) (masterFrequency frequency pw waveshape phaseModulation : F
     pub s_pw : T (fits binary32 s.pw)
     pub s_waveshape : T (fits binary32 s.waveshape)
     pub s_modulation : T (fits binary32 s.phase_modulation)
-    pub master : T (fits binary32 masterFrequency)
-    pub slave : T (fits binary32 frequency)
-    pub width : T (fits binary32 pw)
-    pub shape : T (fits binary32 waveshape)
-    pub modulation : T (fits binary32 phaseModulation)
+    pub master : T (fits binary32 p.master_frequency)
+    pub slave : T (fits binary32 p.frequency)
+    pub width : T (fits binary32 p.pw)
+    pub shape : T (fits binary32 p.waveshape)
+    pub modulation : T (fits binary32 p.phase_modulation)
 
-  pub presumed : (on : Bool) → Fits32 → state_in s ≡ true → parameters_in masterFrequency frequency pw waveshape phaseModulation ≡ true
-      → AllPresumed (courses s masterFrequency frequency pw waveshape phaseModulation on)
+  pub presumed : (on : Bool) → Fits32 → state_in s ≡ true → parameters_in p.master_frequency p.frequency p.pw p.waveshape p.phase_modulation ≡ true → AllPresumed (courses s p on)
   unfolding state_in parameters_in
   presumed on f h k =
       let v = (each_of _ h).1.1.1 in
       let e = each_of _ k in
-      let slave = frequency_target_lem frequency e.1.0 in (
-        record { value_fits = f.s_master; target_fits = clipped_fits masterFrequency f.master; value = v.0; target = frequency_target_lem masterFrequency e.0 },
+      let slave = frequency_target_lem p.frequency e.1.0 in (
+        record { value_fits = f.s_master; target_fits = clipped_fits p.master_frequency f.master; value = v.0; target = frequency_target_lem p.master_frequency e.0 },
         (
-          record { value_fits = f.s_slave; target_fits = clipped_fits frequency f.slave; value = v.1.0; target = slave },
+          record { value_fits = f.s_slave; target_fits = clipped_fits p.frequency f.slave; value = v.1.0; target = slave },
           (
             record {
               value_fits = f.s_pw;
-              target_fits = width_fits (clipped frequency) pw f.width;
+              target_fits = width_fits (clipped p.frequency) p.pw f.width;
               value = v.1.1.0;
-              target = width_target_lem (clipped frequency) pw (clipped_fits frequency f.slave) slave e.1.1.0;
+              target = width_target_lem (clipped p.frequency) p.pw (clipped_fits p.frequency f.slave) slave e.1.1.0;
             },
             (record { value_fits = f.s_waveshape; target_fits = f.shape; value = v.1.1.1.0; target = e.1.1.1.0 }, last on),
           ),
         ),
       )
     where
-      last : (on : Bool) → AllPresumed (cond on (record { room = ModulationOrGain; value = s.phase_modulation; target = phaseModulation } ∷ []) [])
-      last true = (record { value_fits = f.s_modulation; target_fits = f.modulation; value = (each_of _ h).1.1.1.1.1.1.1.0; target = modulation_target phaseModulation (each_of _ k).1.1.1.1.0 }, tt)
+      last : (on : Bool) → AllPresumed (cond on (record { room = ModulationOrGain; value = s.phase_modulation; target = p.phase_modulation } ∷ []) [])
+      last true = (record { value_fits = f.s_modulation; target_fits = f.modulation; value = (each_of _ h).1.1.1.1.1.1.1.0; target = modulation_target p.phase_modulation (each_of _ k).1.1.1.1.0 }, tt)
       last false = tt

@@ -2,22 +2,13 @@
 use mathlib.Core.Path.{refl}
 use native.Mathlib.Omega.{arith}
 use Rattle.floats.proofs.PhaseSteps.{wraps_at_1, phase_sum}
-use Rattle.edges.specs.declared.Edge.{Edge}
-use Rattle.edges.specs.CrossingLoop.{Rises, Falls, Crosses}
+use Rattle.edges.specs.CrossingLoop.{Crosses}
 use Rattle.edges.specs.Private.{Crossable}
 use Rattle.variable_shape.specs.declared.State.{State}
 use Rattle.variable_shape.specs.declared.steps.Steps.{Steps}
 use Rattle.variable_shape.specs.declared.waveform.Waveform.{Waveform}
 use Rattle.variable_shape.specs.Sample.{rise_of, fall_of, edge_of}
-use Rattle.variable_shape.specs.Private.{Ready}
-
-pub rises : (w : Waveform) (e : Edge) → Rises e (rise_of w e)
-unfolding rise_of
-rises w e = record { t = _; phase = refl; high = refl; reset = refl; counts = refl }
-
-pub falls : (w : Waveform) (e : Edge) → Falls e (fall_of w e)
-unfolding fall_of
-falls w e = record { t = _; phase = refl; high = refl; reset = refl; counts = refl }
+use Rattle.variable_shape.specs.Private.{Ready, rises, falls}
 
 abbrev pub crosses : Waveform → Crosses
 crosses w = record { width = w.pw; rise = rise_of w; fall = fall_of w; rises = rises w; falls = falls w }

@@ -7,7 +7,7 @@ use lib.Ieee.{Float, le}
 use Rattle.floats.specs.F32.{◌⊕◌, ◌⊖◌, ◌⊗◌, ◌⊘◌, one32}
 use Rattle.polyblep.specs.Polyblep.{this_blep_sample, next_blep_sample, this_integrated_blep_sample, next_integrated_blep_sample}
 use Rattle.block.specs.Counting.{one_if, as_heard}
-use Rattle.block.specs.Play.{Sample}
+use Rattle.block.specs.declared.sample.Sample.{Sample}
 use Rattle.block.specs.Calls.{call_as_heard}
 use Rattle.block.specs.Oscillator.{Oscillator, call_of}
 use Rattle.block.proofs.Oscillators.{call_none_late}
@@ -23,7 +23,6 @@ use Rattle.edges.proofs.AsHeard.{In01, edge_as_heard, rose_as_heard, fell_as_hea
 use Rattle.variable_shape.specs.declared.State.{State}
 use Rattle.variable_shape.specs.declared.steps.Steps.{Steps}
 use Rattle.variable_shape.specs.declared.waveform.Waveform.{Waveform}
-use Rattle.variable_shape.specs.declared.sample.Sampled.{Sampled}
 use Rattle.variable_shape.specs.Waveform.{waveform_of, naive_of}
 use Rattle.variable_shape.specs.Sample.{rise_of, fall_of, edge_of, after, finish, reset_sample, free_cycles, plain_sample, master_step, sample_of, steps_at, sample_at}
 use Rattle.variable_shape.specs.Block.{Arguments, variable_shape}
@@ -56,20 +55,20 @@ crossed01 w e = crossing_loop w.pw (rise_of01 w) (fall_of01 w) e
 abbrev pub reset_edge01 : State → Waveform → Float → Edge
 reset_edge01 s w time = reset_of01 w.pw (naive_of w) (crossed01 w) s.slave_phase w.slave_frequency time (edge_of s w.slave_frequency)
 
-unfoldable pub reset_sample01 : Bool → State → Steps → Float → Sampled
+unfoldable pub reset_sample01 : Bool → State → Steps → Float → Sample State
 reset_sample01 phaseOutput s steps masterPhase =
     let w = waveform_of steps s.previous_pw in
     let time = reset_time masterPhase steps.master_frequency in
     let e = reset_edge01 s w time in
     finish true phaseOutput e (after w e masterPhase (time ⊗ steps.slave_frequency) false steps) 1 (one_if e.high)
 
-unfoldable pub plain_sample01 : Bool → Bool → State → Steps → Float → Sampled
+unfoldable pub plain_sample01 : Bool → Bool → State → Steps → Float → Sample State
 plain_sample01 sync phaseOutput s steps masterPhase =
     let w = waveform_of steps s.previous_pw in
     let e = crossed01 w (edge_of s steps.slave_frequency) in
     finish sync phaseOutput e (after w e masterPhase e.phase e.high steps) (free_cycles sync e.crossings.falls) 0
 
-unfoldable pub sample_of01 : Bool → Bool → State → Steps → Sampled
+unfoldable pub sample_of01 : Bool → Bool → State → Steps → Sample State
 sample_of01 sync phaseOutput s steps =
     let masterPhase = master_step sync s.master_phase steps.master_frequency in
     cond (sync && le one32 masterPhase)
@@ -85,7 +84,7 @@ abbrev pub variable_shape01 : Bool → Oscillator State Arguments
 variable_shape01 sync = with_sample (variable_shape sync) (λ a. sample_at01 sync a.phase_output)
 
 -- ---- the comparison
-abbrev sampled_as_heard : Sampled → Sampled
+abbrev sampled_as_heard : Sample State → Sample State
 sampled_as_heard t = record { state = t.state; sample = t.sample; counts = as_heard t.counts }
 
 rises_as_heard : (w : Waveform) (e : Edge) → every_rise e.crossings ≤ 1 → rise_of01 w (edge_as_heard e) ≡ edge_as_heard (rise_of w e)

@@ -30,7 +30,7 @@ use Rattle.edges.proofs.CrossingsReset.{reset_counted}
 use Rattle.variable_shape.specs.declared.State.{State}
 use Rattle.variable_shape.specs.declared.steps.Steps.{Steps}
 use Rattle.variable_shape.specs.declared.waveform.Waveform.{Waveform}
-use Rattle.variable_shape.specs.declared.sample.Sampled.{Sampled}
+use Rattle.block.specs.declared.sample.Sample.{Sample}
 use Rattle.variable_shape.specs.Waveform.{waveform_of, naive_of}
 use Rattle.variable_shape.specs.Sample.{crossed, edge_of, finish, reset_edge, reset_sample, plain_sample, sample_of, steps_at, sample_at}
 use Rattle.variable_shape.specs.Block.{state_in, rooms, counted_phase}
@@ -40,7 +40,7 @@ use Rattle.variable_shape.proofs.Edges.{crosses, edge_crossable}
 use Rattle.variable_shape.proofs.Free.{free_falls}
 
 -- what one sample does
-pub record Law (sync : Bool) (s : State) (steps : Steps) (t : Sampled) : Type 0 where
+pub record Law (sync : Bool) (s : State) (steps : Steps) (t : Sample State) : Type 0 where
   pub account : OneSample cycle tick (counted_phase sync s) (cond sync steps.master_frequency steps.slave_frequency) t.counts.cycles (counted_phase sync t.state)
   pub valid : Valid t.state
   pub cycles : t.counts.cycles ≤ 1

@@ -15,6 +15,4 @@ pub init_tight : Determines (ended_of _ init.Kinds.ps init.Kinds.r) init.Reads.L
 init_tight κs a r q v w h k = (coincide h k, refl)
 
 pub render_tight : Determines (ended_of _ render.Kinds.ps render.Kinds.r) render.Reads.Learnt
-render_tight κs a r q v w h k =
-    let o = same_outcome r.answer q.answer _ _ _ _ _ _ (coincide h k) in
-    (rw (o.0, o.1, o.2), rw o.3)
+render_tight κs a r q v w h k = let o = same_outcome r q _ _ _ _ (coincide h k) in (o.0, rw (o.1, o.2))

@@ -1,6 +1,6 @@
 -- The variable shape as an oscillator of `block`: variable_shape_oscillator.rs, lines 57 to 211, with 01's checks before it. Assumes nothing.
 use Rattle.block.specs.Checks.{◌unless◌}
-use Rattle.std.specs.Prelude.{Bool, cond, List, [], ◌∷◌, ℕ, length, Float}
+use Rattle.std.specs.Prelude.{Bool, cond, List, [], ◌∷◌, ℕ, length, Float, Result}
 use Rattle.std.specs.Float.Ieee.{neg}
 use Rattle.floats.specs.F32.{eight32}
 use Rattle.parameter_interpolator.specs.declared.ParameterInterpolator.{ParameterInterpolator}
@@ -9,10 +9,11 @@ use Rattle.rooms.specs.declared.Room.{Room}
 use Rattle.rooms.specs.declared.Room.TheVariants.{Frequency, PulseWidth, Waveshape, ModulationOrGain}
 use Rattle.ranges.specs.Targets.{clipped, clamped_width}
 use Rattle.ranges.specs.Ranges.{within, phase_in, frequency_in, parameter_frequency_in, unit_in, waveshape_in, modulation_or_gain_in, all_of}
+use Rattle.block.specs.declared.Counts.{Counts}
+use Rattle.block.specs.declared.refusal.Refusal.{Refusal}
 use Rattle.block.specs.Calls.{Call, gave}
 use Rattle.block.specs.Oscillator.{Oscillator, call_of}
 use Rattle.variable_shape.specs.declared.State.{State}
-use Rattle.variable_shape.specs.declared.Rendered.{Rendered}
 use Rattle.variable_shape.specs.Sample.{sample_at}
 
 -- 01, "State": phases at least 0 and below 1, frequencies 0 to 17/64, widths 0 to 1, waveshape -1 to 2, phase modulation -16 to 16, `next_sample` any bits
@@ -87,6 +88,6 @@ render_of s masterFrequency frequency pw waveshape phaseModulation sync phaseOut
     call_of (variable_shape sync) s
     (record { master_frequency = masterFrequency; frequency = frequency; pw = pw; waveshape = waveshape; phase_modulation = phaseModulation; phase_output = phaseOutput; buffer = xs })
 
--- what a call returned and left in the buffer, in 01's numbers
-abbrev pub as_call : Rendered → List Float → Call State
-as_call r xs = gave r.answer r.state r.counts xs
+-- what a call returned, and left in the state and in the buffer, in 01's numbers
+abbrev pub as_call : Result Counts Refusal → State → List Float → Call State
+as_call = gave

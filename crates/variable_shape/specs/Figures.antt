@@ -2,11 +2,12 @@
 -- 01 leaves the waveshape open; the table of figures takes 0. Assumes nothing.
 use Rattle.std.specs.Prelude.{false, Float}
 use Rattle.floats.specs.F32.{zero32}
-use Rattle.variable_shape.specs.declared.sample.Sampled.{Sampled}
+use Rattle.block.specs.declared.sample.Sample.{Sample}
+use Rattle.variable_shape.specs.declared.State.{State}
 use Rattle.variable_shape.specs.Sample.{sample_of}
 
 -- a low slave at `phase` that takes `step` without sync, its width the same as before
-abbrev pub steady_sample : Float → Float → Float → Float → Sampled
+abbrev pub steady_sample : Float → Float → Float → Float → Sample State
 steady_sample phase step width waveshape =
     sample_of false false (record {
       master_phase = zero32;

@@ -1,9 +1,9 @@
 -- The master's phase set from outside: variable_shape_oscillator.rs, lines 51 to 53, with 01's refusal before it. Assumes nothing.
-use Rattle.std.specs.Prelude.{cond, ℕ, Float}
+use Rattle.std.specs.Prelude.{cond, ℕ, Result, Ok, Err, Float}
+use Rattle.block.specs.declared.refusal.Refusal.{Refusal}
 use Rattle.block.specs.Answers.{number_of, index_of}
 use Rattle.ranges.specs.Ranges.{phase_in}
 use Rattle.variable_shape.specs.declared.State.{State}
-use Rattle.variable_shape.specs.declared.master_phase.PhaseSet.{PhaseSet}
 
 -- the answer's number and index, and the state
 pub record Setting : Type 0 where
@@ -33,6 +33,11 @@ master_phase_set s phase =
     (record { number = 0; index = 0; state = with_master_phase s phase })
     (record { number = 4; index = 0; state = s })
 
--- what a call returned, in 01's numbers
-abbrev pub as_setting : PhaseSet → Setting
-as_setting r = record { number = number_of r.answer; index = index_of r.answer; state = r.state }
+-- by value a refusal leaves the state that was given
+abbrev pub left : State → Result State Refusal → State
+left s (Ok t) = t
+left s (Err refusal) = s
+
+-- what a call returned, in 01's numbers, and the state that it left
+abbrev pub as_setting : {T : Type 0} → Result T Refusal → State → Setting
+as_setting r s = record { number = number_of r; index = index_of r; state = s }

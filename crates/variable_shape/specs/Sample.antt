@@ -10,11 +10,10 @@ use Rattle.block.specs.Counting.{one_if}
 use Rattle.edges.specs.Counted.{start_of, risen_of, fallen_of, counts_of}
 use Rattle.edges.specs.CrossingLoop.{crossing_loop}
 use Rattle.edges.specs.Sync.{reset_time, reset_of}
-use Rattle.block.specs.Play.{Sample}
+use Rattle.block.specs.declared.sample.Sample.{Sample}
 use Rattle.variable_shape.specs.declared.State.{State}
 use Rattle.variable_shape.specs.declared.steps.Steps.{Steps}
 use Rattle.variable_shape.specs.declared.waveform.Waveform.{Waveform}
-use Rattle.variable_shape.specs.declared.sample.Sampled.{Sampled}
 use Rattle.variable_shape.specs.Waveform.{waveform_of, naive_of}
 
 -- up through the width, lines 149 to 157
@@ -86,7 +85,7 @@ output_of sync phaseOutput masterPhase pw phaseModulation thisSample =
     (two32 ⊗ thisSample ⊖ one32)
 
 -- the end of a sample: the state after it, what is put out, and the counts
-unfoldable pub finish : Bool → Bool → Edge → State → ℕ → ℕ → Sampled
+unfoldable pub finish : Bool → Bool → Edge → State → ℕ → ℕ → Sample State
 finish sync phaseOutput e s cycles cuts = record {
   state = s;
   sample = output_of sync phaseOutput s.master_phase s.pw s.phase_modulation e.this_sample;
@@ -94,7 +93,7 @@ finish sync phaseOutput e s cycles cuts = record {
 }
 
 -- with a reset, lines 114 to 138 and 178 to 181. 01 counts a cut where it finds `high` true just before clearing it.
-unfoldable pub reset_sample : Bool → State → Steps → Float → Sampled
+unfoldable pub reset_sample : Bool → State → Steps → Float → Sample State
 reset_sample phaseOutput s steps masterPhase =
     let w = waveform_of steps s.previous_pw in
     let time = reset_time masterPhase steps.master_frequency in
@@ -106,7 +105,7 @@ abbrev pub free_cycles : Bool → ℕ → ℕ
 free_cycles sync falls = cond sync 0 falls
 
 -- without one, lines 141 to 176
-unfoldable pub plain_sample : Bool → Bool → State → Steps → Float → Sampled
+unfoldable pub plain_sample : Bool → Bool → State → Steps → Float → Sample State
 plain_sample sync phaseOutput s steps masterPhase =
     let w = waveform_of steps s.previous_pw in
     let e = crossed w (edge_of s steps.slave_frequency) in
@@ -117,7 +116,7 @@ abbrev pub master_step : Bool → Float → Float → Float
 master_step sync masterPhase masterFrequency = cond sync (masterPhase ⊕ masterFrequency) masterPhase
 
 -- lines 112 to 115: with sync, a master's phase that has come to 1 wraps and resets the slave
-unfoldable pub sample_of : Bool → Bool → State → Steps → Sampled
+unfoldable pub sample_of : Bool → Bool → State → Steps → Sample State
 sample_of sync phaseOutput s steps =
     let masterPhase = master_step sync s.master_phase steps.master_frequency in
     cond (sync && le one32 masterPhase)

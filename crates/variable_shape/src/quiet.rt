@@ -3,37 +3,31 @@
 ghost use Rattle.std.specs.Prelude.{◌≡◌, true, not, ◌&&◌, cond};
 ghost use Rattle.std.specs.Float.Ieee.{lt, le};
 ghost use Rattle.floats.specs.F32.{◌⊕◌, one32};
+ghost use Rattle.block.specs.Counting.{no_counts};
 ghost use Rattle.variable_shape.specs.Sample.{master_step, sample_of};
 
-use crate::sample::Sampled;
 use crate::steps::Steps;
 use crate::{State, output, sample, waveform};
+use block::Sample;
 
-// Whether the crossing loop leaves by the first of its breaks that it comes to, lines 146 and 161. The tests are the loop's, so that a NaN goes the
-// same way here as there.
-fn is_uncrossed(high: bool, phase: f32, pw: f32) -> bool
-    ensures { result ≡ cond high (lt phase one32) (lt phase pw) }
-{
-    if high { phase < 1.0 } else { phase < pw }
-}
-
-// No reset, line 114, and no crossing.
+// No reset, line 114, and no crossing, lines 146 and 161. Sync and phase output go beside the steps, since a block does not step them.
 pub(crate) fn is_quiet(s: State, steps: Steps, sync: bool) -> bool
     ensures { result ≡ (not (sync && le one32 (master_step sync s.master_phase steps.master_frequency)) && cond s.high (lt (s.slave_phase ⊕ steps.slave_frequency) one32) (lt (s.slave_phase ⊕ steps.slave_frequency) steps.pw)) }
 {
     let master_phase = sample::master_step(sync, s.master_phase, steps.master_frequency);
     !(sync & (master_phase >= 1.0))
-        & is_uncrossed(s.high, s.slave_phase + steps.slave_frequency, steps.pw)
+        & edges::is_uncrossed(s.high, s.slave_phase + steps.slave_frequency, steps.pw)
 }
 
 // The sample, under that test: the phases move on, and the waveform is read where the slave's is. Nothing is counted.
-pub(crate) fn sample(s: State, steps: Steps, sync: bool, phase_output: bool) -> Sampled
+pub(crate) fn sample(s: State, steps: Steps, sync: bool, phase_output: bool) -> Sample<State>
     requires { (not (sync && le one32 (master_step sync s.master_phase steps.master_frequency)) && cond s.high (lt (s.slave_phase ⊕ steps.slave_frequency) one32) (lt (s.slave_phase ⊕ steps.slave_frequency) steps.pw)) ≡ true }
-    ensures { result ≡ sample_of sync phase_output s steps }
+    ensures made { result ≡ sample_of sync phase_output s steps }
+    ensures counts { result.counts ≡ no_counts }
 {
     let master_phase = sample::master_step(sync, s.master_phase, steps.master_frequency);
     let slave_phase = s.slave_phase + steps.slave_frequency;
-    Sampled {
+    Sample {
         sample: output::output(
             sync,
             phase_output,

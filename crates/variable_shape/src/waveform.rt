@@ -33,7 +33,7 @@ pub(crate) fn at(steps: Steps, previous_pw: f32) -> Waveform
     }
 }
 
-// Line 224. The width itself is high.
+// Line 224. The width itself is high. Other oscillators have the same line of their own source, and a shared function would be no shorter.
 fn square(phase: f32, pw: f32) -> f32
     ensures { result ≡ square_of phase pw }
 {

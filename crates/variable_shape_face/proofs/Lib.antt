@@ -1,3 +1,2 @@
 -- Two outcomes of a call coincide.
-mod MasterPhase
 pub mod Tight

@@ -1,11 +1,14 @@
 // The variable shape over lent arrays of 32-bit words, for the face.
 #![tactic(auto)]
 
-ghost use Rattle.std.specs.Prelude.{◌≡◌, cond, eqb, set};
+ghost use Rattle.std.specs.Prelude.{◌≡◌, cond, set, Some, None, get_or};
+ghost use Rattle.words.specs.Face.{no_bool};
 ghost use Rattle.variable_shape_face.specs.Words.{state_of, words_of, init_words, render_face, set_face};
 
-use variable_shape::State;
+use variable_shape::{Parameters, State};
+use words::Words;
 
+// Fields and words in the header's order, and answers by number: the C interface has them so, of each oscillator for itself.
 // Any words are read. Whether the one for `high` stands for a bool is asked before a block, and does not matter to the master's phase.
 fn state_of(w: [u32; 10]) -> State
     ensures { result ≡ state_of w }
@@ -42,12 +45,32 @@ fn words_of(s: State) -> [u32; 10]
     ]
 }
 
-// Words that are not stored stay bit by bit, a NaN in them too.
-fn store(words: &mut [u32; 10], stored: bool, after: [u32; 10])
-    ensures { words.new ≡ cond stored after words.old }
-{
-    if stored {
-        *words = after;
+// The words in the order of the fields.
+struct InOrder;
+
+impl Words<10> for InOrder {
+    type State = State;
+
+    ghost state_of = { state_of };
+
+    ghost words_of = { words_of };
+
+    ghost is_no_state = { λ w. no_bool (get_or w 4 0) };
+
+    fn read(w: [u32; 10]) -> Option<State>
+        ensures { result ≡ cond (no_bool (get_or w 4 0)) None (Some (state_of w)) }
+    {
+        if words::no_bool(w[4]) {
+            None
+        } else {
+            Some(state_of(w))
+        }
+    }
+
+    fn write(s: State) -> [u32; 10]
+        ensures { result ≡ words_of s }
+    {
+        words_of(s)
     }
 }
 
@@ -73,12 +96,7 @@ pub fn render(
 ) -> u32
     ensures { record { answer = result; words = words.new; result = res.new; samples = out.new } ≡ render_face words.old master_frequency frequency pw waveshape phase_modulation sync phase_output out.old }
 {
-    if words::no_bool(words[4]) {
-        *res = words::no_state(out.len());
-        return res[0];
-    }
-    let r = variable_shape::render(
-        state_of(*words),
+    let parameters = Parameters {
         master_frequency,
         frequency,
         pw,
@@ -86,33 +104,18 @@ pub fn render(
         phase_modulation,
         sync,
         phase_output,
-        out,
-    );
-    let answer = r.answer;
-    let counts = r.counts;
-    let state = r.state;
-    *res = words::result_of(answer, counts);
-    store(words, words::stores(answer, out.len()), words_of(state));
-    res[0]
+    };
+    words::render::<InOrder, _, _>(words, parameters, out, res)
 }
 
-// The first word alone is stored, so that the others stay bit by bit as they were, whatever they are.
+// The first word alone is stored, so that the others stay bit by bit as they were, whatever they are; after a refusal it stays too.
 pub fn set_master_phase(words: &mut [u32; 10], phase: f32) -> u32
     ensures { record { words = words.new; number = result } ≡ set_face words.old phase }
 {
-    let r = variable_shape::set_master_phase(state_of(*words), phase);
-    let answer = r.answer;
-    let state = r.state;
-    let number = block::number(answer);
-    store_first(words, number, floats::to_bits(state.master_phase));
-    number
-}
-
-// After a refusal the first word stays too.
-fn store_first(words: &mut [u32; 10], number: u32, first: u32)
-    ensures { words.new ≡ cond (eqb number 0) (set words.old 0 first) words.old }
-{
-    if number == 0 {
-        words[0] = first;
+    let mut state = state_of(*words);
+    let answer = variable_shape::set_master_phase_in(&mut state, phase);
+    if answer.is_ok() {
+        words[0] = floats::to_bits(state.master_phase);
     }
+    block::number(answer)
 }

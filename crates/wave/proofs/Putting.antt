@@ -1,25 +1,31 @@
 -- The bytes of a stem as they are laid into a buffer. Assumes nothing.
 use mathlib.Core.Path.{◌≡◌, refl, sym, ap, ◌∙◌}
 use mathlib.Core.List.{List, [], ◌∷◌, ◌++◌, append_assoc, append-nil}
-use Prim.Native.Nat.{ℕ, suc, ◌+◌, ◌*◌, ◌/◌, ◌%◌, ◌≤◌, ◌<◌, ◌-◌}
+use Prim.Native.Nat.{ℕ, ◌+◌, ◌*◌, ◌≤◌, ◌<◌, ◌-◌}
 use native.Mathlib.Nat.{add-sub_cancel_left}
 use native.Mathlib.Numerals.{add-one}
 use native.Mathlib.Omega.{arith}
-use lib.ListN.{length, get_or, take, drop, set, length-append, length-set}
-use lib.Seq.{sets, take_at, drop_at, take-length, drop-length, drop-drop, take-suc, take_all, drop-cons, set_at, append_snoc, length-take-le}
+use lib.ListN.{length, get_or, take, drop, length-append, length-take, length-drop}
+use lib.Seq.{take_at, drop_at, take-length, drop-length, drop-drop, take-suc, take_all, length-take-le}
 use lib.Ieee.{Float}
+use lib.IntN.{ℤ, pos, negsuc}
+use Rattle.std.specs.Int.{w16, w32, to_le_bytes, cast_signed, cast_unsigned}
+use Rattle.wave.proofs.Held.{read_back}
 use Rattle.wave.specs.Pcm.{pcm_of, held_as}
 use Rattle.wave.specs.Form.{low_first, header_of, samples_of, stem_of}
 
--- ---- four bytes of a number, one after the other
-pub dword_put : (l : List ℕ) (at v a b c d : ℕ) → a ≡ v % 256 → b ≡ v / 256 % 256 → c ≡ v / 256 / 256 % 256 → d ≡ v / 256 / 256 / 256 % 256
-    → set (set (set (set l at a) (at + 1) b) (at + 2) c) (at + 3) d ≡ sets l at (low_first 4 v)
+-- ---- the bytes of a number, as the library writes them
+pub dword_bytes : (v : ℕ) → to_le_bytes w32 v ≡ low_first 4 v
 unfolding low_first
-dword_put l at v a b c d p q r s =
-    let one : at + 1 ≡ suc at = omega arith in
-    let two : at + 2 ≡ suc (suc at) = omega arith in
-    let three : at + 3 ≡ suc (suc (suc at)) = omega arith in
-    rw (p, q, r, s, one, two, three)
+dword_bytes v = grind arith
+
+word_bytes : (z : ℤ) → to_le_bytes w16 (cast_unsigned w16 z) ≡ low_first 2 (held_as z)
+unfolding low_first
+word_bytes (pos n) = grind arith
+word_bytes (negsuc n) = grind arith
+
+pub number_bytes : (x : Float) (z : ℤ) → z ≡ pcm_of x → to_le_bytes w16 (cast_unsigned w16 (cast_signed w16 (cast_unsigned w16 z))) ≡ low_first 2 (held_as (pcm_of x))
+number_bytes x z e = rw (read_back x z e, e) (word_bytes (pcm_of x))
 
 -- ---- the numbers of samples
 pub samples_long : (xs : List Float) → length (samples_of xs) ≡ 2 * length xs
@@ -32,17 +38,7 @@ unfolding samples_of
 samples_append [] ys = refl
 samples_append (x ∷ rest) ys = rw (samples_append rest ys) (sym (append_assoc (low_first 2 (held_as (pcm_of x))) (samples_of rest) (samples_of ys)))
 
--- ---- two bytes after those that stand at a buffer's front
-two_more : (front d : List ℕ) (k a b : ℕ) → length front ≡ k → k + 2 ≤ length d → set (set (front ++ drop k d) k a) (k + 1) b ≡ front ++ (a ∷ b ∷ drop (k + 2) d)
-two_more front d k a b l h =
-    let next : drop (suc (suc k)) d ≡ drop (k + 2) d = ap (λ (j : ℕ). drop j d) (sym (add_two k)) in
-    let longer : length (front ++ (a ∷ [])) ≡ k + 1 = length-append front (a ∷ []) ∙ ap (λ (j : ℕ). j + 1) l in
-    rw (drop-cons d k 0 (omega arith), set_at front (get_or d k 0) (drop (suc k) d) a k l, drop-cons d (suc k) 0 (omega arith), ← append_snoc front a (get_or d (suc k) 0 ∷ drop (suc (suc k)) d))
-    (set_at (front ++ (a ∷ [])) (get_or d (suc k) 0) (drop (suc (suc k)) d) b (k + 1) longer ∙ append_snoc front a (b ∷ drop (suc (suc k)) d) ∙ ap (λ (rest : List ℕ). front ++ (a ∷ b ∷ rest)) next)
-  where
-    add_two : (k : ℕ) → k + 2 ≡ suc (suc k)
-    add_two k = omega arith
-
+-- ---- sample by sample
 -- i samples are put
 pub record Put (d : List ℕ) (xs : List Float) (d' : List ℕ) (i : ℕ) : Type 0 where
   pub most : i ≤ length xs
@@ -62,22 +58,22 @@ module _ (d : List ℕ) (xs : List Float) where
     one_more : (z : Float) → i < length xs → samples_of (take (i + 1) xs) ≡ samples_of (take i xs) ++ samples_of (get_or xs i z ∷ [])
     one_more z h = rw (add-one i, take-suc xs i z h) (samples_append (take i xs) (get_or xs i z ∷ []))
 
-    -- a sample more
-    pub put_more : (z : Float) (a b : ℕ) → i < length xs → a ≡ held_as (pcm_of (get_or xs i z)) % 256 → b ≡ held_as (pcm_of (get_or xs i z)) / 256 % 256
-        → Put d xs (set (set d' (2 * i) a) (2 * i + 1) b) (i + 1)
+    -- a sample more, as two bytes are copied to their place
+    pub put_more : (z : Float) (w : List ℕ) → i < length xs → w ≡ low_first 2 (held_as (pcm_of (get_or xs i z)))
+        → Put d xs (take (2 * i) d' ++ (w ++ drop 2 (drop (2 * i) d'))) (i + 1)
     unfolding samples_of low_first
-    put_more z a b h e f =
-        let next : 2 * i + 2 ≡ 2 * (i + 1) = omega arith in
+    put_more z w h e =
         let front = samples_of (take i xs) in
-        let laid : set (set d' (2 * i) a) (2 * i + 1) b ≡ front ++ (a ∷ b ∷ drop (2 * i + 2) d) =
-        rw p.same (two_more front d (2 * i) a b before_long (omega (arith, p.room)))
-        in
-        let numbers : samples_of (take (i + 1) xs) ≡ front ++ (a ∷ b ∷ []) = rw (one_more z h, e, f) in
+        let next : 2 * i + 2 ≡ 2 * (i + 1) = omega arith in
+        let at : take (2 * i) d' ≡ front = rw p.same (take_at front (drop (2 * i) d) (2 * i) before_long) in
+        let past : drop (2 * i) d' ≡ drop (2 * i) d = rw p.same (drop_at front (drop (2 * i) d) (2 * i) before_long) in
+        let numbers : samples_of (take (i + 1) xs) ≡ front ++ w = rw (one_more z h, e) in
+        let two : length w ≡ 2 = rw e in
         record {
           most = omega arith;
           room = p.room;
-          same = rw (laid, numbers, next) (sym (append_assoc front (a ∷ b ∷ []) (drop (2 * (i + 1)) d)));
-          long = simp length-set p.long;
+          same = rw (at, past, drop-drop 2 (2 * i) d, next, numbers) (sym (append_assoc front w (drop (2 * (i + 1)) d)));
+          long = simp (length-append, length-take, length-drop) (omega (arith, two, p.long, p.room));
         }
 
     pub put_end : length xs ≤ i → d' ≡ samples_of xs ++ drop (2 * length xs) d

@@ -8,21 +8,22 @@ use lib.Dec.{leb}
 use lib.ListN.{length, drop}
 use lib.Ieee.{Float}
 use Rattle.floats.proofs.Bools.{and_both}
-use Rattle.wave.specs.declared.Written.TheVariants.{Done, BadParam, NoRoom}
+use Rattle.std.specs.Prelude.{Ok, Err}
+use Rattle.wave.specs.declared.Refusal.TheVariants.{BadParam, NoRoom}
 use Rattle.wave.specs.Form.{stem_of}
 use Rattle.wave.specs.Write.{rate_in, all_numbers, is_fit, write_of, handed_back}
 
 module _ (rate : ℕ) (xs : List Float) (d : List ℕ) where
-  pub unfit_way : is_fit rate xs ≡ false → handed_back BadParam d ≡ write_of rate xs d
+  pub unfit_way : is_fit rate xs ≡ false → handed_back (Err BadParam) d ≡ write_of rate xs d
   unfolding write_of
   unfit_way h = rw h
 
   module _ (fit : is_fit rate xs ≡ true) where
-    pub short_way : length d < 44 + 2 * length xs → handed_back NoRoom d ≡ write_of rate xs d
+    pub short_way : length d < 44 + 2 * length xs → handed_back (Err NoRoom) d ≡ write_of rate xs d
     unfolding write_of
     short_way h = rw (fit, lt-leb (44 + 2 * length xs) (length d) h)
 
-    pub written_way : (d' : List ℕ) → 44 + 2 * length xs ≤ length d → d' ≡ stem_of rate xs ++ drop (44 + 2 * length xs) d → handed_back Done d' ≡ write_of rate xs d
+    pub written_way : (d' : List ℕ) → 44 + 2 * length xs ≤ length d → d' ≡ stem_of rate xs ++ drop (44 + 2 * length xs) d → handed_back (Ok tt) d' ≡ write_of rate xs d
     unfolding write_of
     written_way d' h e = rw (fit, le-leb (44 + 2 * length xs) (length d) h, e)
 

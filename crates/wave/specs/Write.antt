@@ -1,8 +1,8 @@
 -- What `write` answers, and what it leaves in the lent bytes. Assumes nothing.
-use Rattle.std.specs.Prelude.{Bool, true, not, ◌&&◌, cond, List, [], ◌∷◌, ◌++◌, ℕ, ◌+◌, ◌*◌, leb, length, drop, Float}
+use Rattle.std.specs.Prelude.{Bool, true, not, ◌&&◌, cond, List, [], ◌∷◌, ◌++◌, ℕ, ◌+◌, ◌*◌, leb, length, drop, Float, Result, Ok, Err}
 use Rattle.std.specs.Float.Ieee.{is_nan}
-use Rattle.wave.specs.declared.Written.{Written}
-use Rattle.wave.specs.declared.Written.TheVariants.{Done, BadParam, NoRoom}
+use Rattle.wave.specs.declared.Refusal.{Refusal}
+use Rattle.wave.specs.declared.Refusal.TheVariants.{BadParam, NoRoom}
 use Rattle.wave.specs.Form.{stem_of}
 
 -- "rate 1 to 384,000"
@@ -32,10 +32,10 @@ write_of rate xs d =
     (record { number = 0; bytes = stem_of rate xs ++ drop (44 + 2 * length xs) d }))
 
 -- the same of what the function answered, by cases
-abbrev pub number_of : Written → ℕ
-number_of Done = 0
-number_of BadParam = 4
-number_of NoRoom = 9
+abbrev pub number_of : Result (Unit {0}) Refusal → ℕ
+number_of (Ok done) = 0
+number_of (Err BadParam) = 4
+number_of (Err NoRoom) = 9
 
-abbrev pub handed_back : Written → List ℕ → Handed
+abbrev pub handed_back : Result (Unit {0}) Refusal → List ℕ → Handed
 handed_back r d = record { number = number_of r; bytes = d }

@@ -2,7 +2,6 @@
 #![tactic(auto)]
 
 ghost use Rattle.std.specs.Prelude.{◌≡◌, ◌++◌, ◌+◌, ◌*◌, ◌≤◌, length, drop};
-ghost use Rattle.std.specs.Float.Ieee.{is_nan};
 ghost use Rattle.wave.specs.Form.{samples_of, stem_of};
 ghost use Rattle.wave.specs.Write.{is_fit, all_numbers, number_of, write_of, handed_back};
 
@@ -18,70 +17,57 @@ pub const MOST_SAMPLES: usize = 1_048_576;
 // The bytes of the longest stem.
 pub const ROOM: usize = 2_097_196;
 
-// The stem was written. Or a rate, a count or a sample is unfit, or the stem would not have fitted, and nothing was.
-#[derive(Clone, Copy)]
-pub enum Written {
-    Done,
+// Why there is no stem: a rate, a count or a sample is unfit, or the stem would not have fitted. Nothing was written then.
+#[derive(Clone, Copy, Debug, PartialEq, Eq)]
+pub enum Refusal {
     BadParam,
     NoRoom,
 }
 
 // The answer's number.
-pub fn number(written: Written) -> u32
+pub fn number(written: Result<(), Refusal>) -> u32
     ensures { result ≡ number_of written }
 {
     match written {
-        Written::Done => 0,
-        Written::BadParam => 4,
-        Written::NoRoom => 9,
+        Ok(()) => 0,
+        Err(Refusal::BadParam) => 4,
+        Err(Refusal::NoRoom) => 9,
     }
 }
 
 // The stem goes to the front of `out`, and what lies past it stays.
-pub fn write(rate: u32, samples: &[f32], out: &mut [u8]) -> Written
+pub fn write(rate: u32, samples: &[f32], out: &mut [u8]) -> Result<(), Refusal>
     ensures { handed_back result out.new ≡ write_of rate samples.now out.old }
 {
     if !is_fit(rate, samples) {
-        return Written::BadParam;
+        return Err(Refusal::BadParam);
     }
     if out.len() < HEADER + 2 * samples.len() {
-        return Written::NoRoom;
+        return Err(Refusal::NoRoom);
     }
     put(rate, samples, out);
-    Written::Done
+    Ok(())
 }
 
 // Whether there is a stem of these samples at this rate.
 fn is_fit(rate: u32, samples: &[f32]) -> bool
     ensures { result ≡ is_fit rate samples.now }
 {
-    (rate >= 1) & (rate <= 384_000) & (samples.len() <= MOST_SAMPLES) & all_numbers(samples)
+    (1..=384_000).contains(&rate) && samples.len() <= MOST_SAMPLES && all_numbers(samples)
 }
 
 // It stops at the first NaN.
 fn all_numbers(samples: &[f32]) -> bool
     ensures { result ≡ all_numbers samples.now }
 {
-    let mut i = 0;
-    while i < samples.len() {
-        if is_nan(samples[i]) {
-            return false;
-        }
-        i += 1;
-    }
-    true
-}
-
-// A NaN alone is not equal to itself.
-fn is_nan(x: f32) -> bool
-    ensures { result ≡ is_nan x }
-{
-    x != x
+    samples.iter().all(|x| !x.is_nan())
 }
 
 // Header and samples.
 fn put(rate: u32, samples: &[f32], out: &mut [u8])
-    requires { (rate ≤ 384000) × (length samples.now ≤ 1048576) × (44 + 2 * length samples.now ≤ length out.old) }
+    requires rate { rate ≤ 384000 }
+    requires few { length samples.now ≤ 1048576 }
+    requires room { 44 + 2 * length samples.now ≤ length out.old }
     ensures { out.new ≡ stem_of rate samples.now ++ drop (44 + 2 * length samples.now) out.old }
 {
     let header = form::header(rate, 2 * samples.len() as u32);
@@ -91,14 +77,12 @@ fn put(rate: u32, samples: &[f32], out: &mut [u8])
 
 // The numbers of the samples, each in two bytes, the lower first.
 fn put_samples(samples: &[f32], out: &mut [u8])
-    requires { (length samples.now ≤ 1048576) × (2 * length samples.now ≤ length out.old) }
+    requires few { length samples.now ≤ 1048576 }
+    requires room { 2 * length samples.now ≤ length out.old }
     ensures { out.new ≡ samples_of samples.now ++ drop (2 * length samples.now) out.old }
 {
-    let mut i = 0;
-    while i < samples.len() {
-        let held = pcm::held(samples[i]);
-        out[2 * i] = form::low(held);
-        out[2 * i + 1] = form::low(held / 0x100);
-        i += 1;
+    // By index: of what is written through chunks_exact_mut a proof knows the length alone.
+    for (i, x) in samples.iter().enumerate() {
+        out[2 * i..2 * i + 2].copy_from_slice(&pcm::number(*x).to_le_bytes());
     }
 }

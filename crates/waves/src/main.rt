@@ -4,59 +4,46 @@
 
 mod record;
 
+type Line = testing::Line<11>;
+
 // The samples that a record may ask for: one more than a stem has at most.
 const MOST_SAMPLES: usize = 1_048_577;
 
 // The bytes that it may lend: eight more than the longest stem has.
 const MOST_BYTES: usize = 2_097_204;
 
-// The buffers are as large as fits on a stack, and so they are made once.
+// A line for each record. The buffers are as large as fits on a stack, and so they are made once.
 fn main(rt: HostRuntime) {
     let mut samples = [0.0f32; MOST_SAMPLES];
     let mut lent = [0u8; MOST_BYTES];
-    print_lines(rt, &mut samples, &mut lent);
+    testing::repeat(|| print_next(rt, &mut samples, &mut lent));
 }
 
-// A proved loop has to end, and nothing says that the input does: so the turns are counted, up to a number that no run reaches.
-fn print_lines(rt: HostRuntime, samples: &mut [f32; MOST_SAMPLES], lent: &mut [u8; MOST_BYTES]) {
-    for _ in 0..u64::MAX {
-        if !print_next(rt, samples, lent) {
-            break;
-        }
-    }
-}
-
-// Prints the line of the next record, and answers whether there may be more.
-fn print_next(
-    rt: HostRuntime,
-    samples: &mut [f32; MOST_SAMPLES],
-    lent: &mut [u8; MOST_BYTES],
-) -> bool {
-    let mut input = [0u8; 64];
-    if !streams::fill(rt, b"waves", &mut input) {
-        return false;
-    }
-    let mut space = [0u8; 11];
-    let text: &mut [u8] = &mut space;
-    let end = put_line(text, &input, &mut samples[..], &mut lent[..]);
-    streams::write(rt, b"waves", testing::front(text, end))
+// Prints the line of the next record, and answers whether there may be more. One that the test programs share would need a contract on what is written,
+// which `streams::write` has none of.
+fn print_next(rt: HostRuntime, samples: &mut [f32], lent: &mut [u8]) -> bool {
+    let mut record = [0u8; 64];
+    streams::fill(rt, b"waves", &mut record)
+        && streams::write(rt, b"waves", line_of(&record, samples, lent).as_bytes())
 }
 
 // A record's line. Of the buffers the call gets as many samples and bytes as the record says, and without so many there is no call.
-fn put_line(text: &mut [u8], input: &[u8; 64], samples: &mut [f32], lent: &mut [u8]) -> usize {
-    let count = testing::word_at(input, 4) as usize;
-    let room = testing::word_at(input, 8) as usize;
-    if count > samples.len() || room > lent.len() {
-        return testing::put(text, 0, b"-\n");
+fn line_of(record: &[u8; 64], samples: &mut [f32], lent: &mut [u8]) -> Line {
+    let mut line = Line::new();
+    let [rate, count, room] = testing::words_at::<3>(record, 0);
+    match (
+        samples.get_mut(..count as usize),
+        lent.get_mut(..room as usize),
+    ) {
+        (Some(samples), Some(lent)) => {
+            record::fill(samples, record);
+            // Every byte is 165, so that one that is written shows, and one that stays too.
+            lent.fill(165);
+            let written = wave::write(rate, samples, lent);
+            line.put_number(wave::number(written), b' ');
+            line.put_word(testing::sum(lent), b'\n');
+        }
+        _ => line.put(b"-\n"),
     }
-    put_call(text, input, &mut samples[0..count], &mut lent[0..room])
-}
-
-// The line of the call with these samples and bytes.
-fn put_call(text: &mut [u8], input: &[u8; 64], samples: &mut [f32], lent: &mut [u8]) -> usize {
-    record::fill(samples, input);
-    record::mark(lent);
-    let written = wave::write(testing::word_at(input, 0), samples, lent);
-    let answer = testing::put_number(text, 0, wave::number(written), b' ');
-    testing::put_word(text, answer, testing::sum(lent), b'\n')
+    line
 }

@@ -18,7 +18,7 @@ pub fn whole_part(x: f32) -> u32
 }
 
 // Of the leading one, which the bits leave out, and the 23 digits behind it those before the point, which are one more than the exponent. The bits hold
-// the exponent with 127 added.
+// the exponent with 127 added. Worked out and not converted, since the edits of this crate are of its digits.
 fn digits_before_point(x: f32) -> u32
     requires { (le one32 x ≡ true) × (lt x (f32 0x4800_0000) ≡ true) }
     ensures { result ≡ whole_part x }

@@ -1,5 +1,10 @@
 -- A call from another language is the oscillator's own call, put into words. For any oscillator. Assumes nothing.
-use mathlib.Core.Path.{◌≡◌, refl, ap}
+use Rattle.std.proofs.Common.{Some, None, Result}
+use Rattle.std.specs.Result.{is_ok}
+use Rattle.block.specs.declared.refusal.Refusal.{Refusal}
+use Rattle.block.proofs.Contracts.{ok_is_done}
+use Rattle.block.specs.Answers.{number_of}
+use mathlib.Core.Path.{◌≡◌, refl, ap, ◌∙◌}
 use mathlib.Core.Bool.{Bool, true, false, ◌&&◌, cond}
 use mathlib.Core.Logic.{⊎_elim, inl, inr}
 use mathlib.Core.List.{List, [], ◌∷◌}
@@ -8,21 +13,21 @@ use lib.Dec.{leb, eqb}
 use lib.ListN.{length, get_or}
 use lib.Ieee.{Float}
 use borrow.Author.Tests.{eqb-true}
-use Rattle.block.specs.declared.Answer.{Answer}
-use Rattle.block.specs.declared.Counts.{Counts}
-use Rattle.block.specs.Answers.{number_of, index_of}
-use Rattle.block.specs.Counting.{late}
 use Rattle.block.specs.Calls.{Call, refusal}
 use Rattle.block.specs.Checks.{Check, FirstFailing, here, later, ◌unless◌}
 use Rattle.block.specs.Oscillator.{Oscillator, checks_of, call_of, Way, refused, drifted, answered}
 use Rattle.block.proofs.Ways.{not_done, refused_by, goes, way}
 use Rattle.block.proofs.Oscillators.{answered_or_as_given, empty_answered}
-use Rattle.words.specs.Face.{Face, result_of, result_words, stores_of, face_of, refused_face, AnsweredOrKept, no_state}
+use Rattle.words.specs.Face.{Face, result_of, stores_of, face_of, refused_face, AnsweredOrKept, no_state}
 
--- what `block` tells of an answer and of counts, as the words of a result
-pub result_is : (answer : Answer) (counts : Counts) {number index both : ℕ} → number ≡ number_of answer → index ≡ index_of answer → both ≡ late counts
-    → number ∷ index ∷ counts.cycles ∷ counts.rises ∷ counts.falls ∷ counts.cuts ∷ both ∷ [] ≡ result_words answer counts
-result_is answer counts at-number at-index at-late = rw (at-number, at-index, at-late)
+-- what is stored where an answer is no refusal is what the definitions store for the number 0
+pub stored_if : {T : Type 0} (a : Result T Refusal) {b : Bool} (after given : List ℕ) {kept : List ℕ} → b ≡ is_ok a → kept ≡ cond b after given → kept ≡ cond (eqb (number_of a) 0) after given
+stored_if a after given e h = h ∙ rw (e, ok_is_done a)
+
+-- words that were read are a state's, and theirs is the state that was read
+pub read_is : {S : Type 0} (b : Bool) {s t : S} → Some t ≡ cond b None (Some s) → (b ≡ false) × (t ≡ s)
+read_is true e = cc
+read_is false e = (refl, cc)
 
 -- c is what the oscillator's call left, d what its definition says, from the state that was read
 pub face_is : {S : Type 0} (words_of : S → List ℕ) (given : List ℕ) {c d : Call S} {stored : Bool} {after kept result : List ℕ}
@@ -75,11 +80,6 @@ module _ {S A : Type 0} (o : Oscillator S A) (words_of : S → List ℕ) (w : Li
       never : (b : Bool) → cond (b && false) (words_of (call_of o s a).state) w ≡ w
       never true = refl
       never false = refl
-
--- what holds of both ways of a choice: of words that are no state, and of the oscillator's call
-pub either_way : (P : Face → Type 0) (b : Bool) {f g : Face} → P f → P g → P (cond b f g)
-either_way P true p q = p
-either_way P false p q = q
 
 -- what two calls give and leave, part by part
 pub same_face : {f g : Face} → f ≡ g → (f.answer ≡ g.answer) × (f.words ≡ g.words) × (f.result ≡ g.result) × (f.samples ≡ g.samples)

@@ -1,4 +1,4 @@
 -- Calls and whole numbers put into words.
-pub mod Words
+pub mod Signs
 pub mod Faces
 pub mod Tight

@@ -1,13 +1,13 @@
 -- What a call from another language gives, for any oscillator: the answer that it returns, the state's words, the seven words of the result, the first of
 -- them the answer again, and the samples. Assumes nothing.
-use Rattle.std.specs.Prelude.{◌≡◌, Bool, cond, ◌&&◌, ◌⊎◌, List, ◌∷◌, ℕ, ◌-◌, eqb, leb, ltb, ℤ, pos, negsuc, length, get_or, Float}
+use Rattle.std.specs.Prelude.{◌≡◌, Bool, cond, ◌&&◌, ◌⊎◌, List, ◌∷◌, ℕ, ◌-◌, eqb, leb, ltb, ℤ, pos, negsuc, length, get_or, Float, Result}
 use Rattle.std.specs.Float.{binary32}
 use Rattle.std.specs.Float.Ieee.{to_bits}
-use Rattle.block.specs.declared.Answer.{Answer}
+use Rattle.block.specs.declared.refusal.Refusal.{Refusal}
 use Rattle.block.specs.declared.Counts.{Counts}
 use Rattle.block.specs.Answers.{number_of, index_of}
 use Rattle.block.specs.Counting.{no_counts, told}
-use Rattle.block.specs.Calls.{Call}
+use Rattle.block.specs.Calls.{Call, counted}
 
 pub record Face : Type 0 where
   pub answer : ℕ
@@ -20,8 +20,8 @@ abbrev pub result_of : {S : Type 0} → Call S → List ℕ
 result_of c = c.number ∷ c.index ∷ told c.counts
 
 -- the same of what an oscillator's call gave
-abbrev pub result_words : Answer → Counts → List ℕ
-result_words answer counts = number_of answer ∷ index_of answer ∷ told counts
+abbrev pub result_words : Result Counts Refusal → List ℕ
+result_words answer = number_of answer ∷ index_of answer ∷ told (counted answer)
 
 -- Whether a call that answered with this number over so many samples has its state stored. The given words stay, bit by bit, after a refusal and after
 -- an empty block, 01: "nothing changed". A NaN among what is stored is 7fc00000.

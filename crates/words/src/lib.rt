@@ -1,4 +1,4 @@
-// What the faces share: the seven words of a result, words that are no state, when a state is stored, and whole numbers as words.
+// What the faces share: an oscillator's state as words, a call over them, the seven words of a result, and whole numbers as words.
 #![tactic(auto)]
 
 ghost use Rattle.std.specs.Prelude.{◌≡◌, ◌∷◌};
@@ -6,11 +6,18 @@ ghost use Rattle.block.specs.Answers.{number_of};
 ghost use Rattle.block.specs.Counting.{no_counts, told};
 ghost use Rattle.words.specs.Face.{result_words, no_bool, bad_state_of, stores_of, signed_of, unsigned_of};
 
+use block::{Counts, Refusal};
+
+mod state;
+
+// A state as words.
+pub use state::{Words, render};
+
 // The seven words of a result: the answer, Drift's index or 0, and the counts in the order in which they are told.
-pub fn result_of(answer: block::Answer, counts: block::Counts) -> [u32; 7]
-    ensures { result ≡ result_words answer counts }
+pub fn result_of(answer: Result<Counts, Refusal>) -> [u32; 7]
+    ensures { result ≡ result_words answer }
 {
-    let late = block::late(counts);
+    let counts = answer.unwrap_or(block::none());
     [
         block::number(answer),
         block::index(answer),
@@ -18,7 +25,7 @@ pub fn result_of(answer: block::Answer, counts: block::Counts) -> [u32; 7]
         counts.rises,
         counts.falls,
         counts.cuts,
-        late,
+        block::late(counts),
     ]
 }
 
@@ -34,37 +41,29 @@ pub fn no_state(samples: usize) -> [u32; 7]
     ensures { result ≡ bad_state_of samples ∷ 0 ∷ told no_counts }
 {
     if samples <= 4096 {
-        [3, 0, 0, 0, 0, 0, 0]
+        result_of(Err(Refusal::BadState))
     } else {
-        [1, 0, 0, 0, 0, 0, 0]
+        result_of(Err(Refusal::LongBlock))
     }
 }
 
 // Whether a call's state is stored: a refusal and an empty block leave the words bit by bit, a NaN in them too.
-pub fn stores(answer: block::Answer, samples: usize) -> bool
+pub fn stores(answer: Result<Counts, Refusal>, samples: usize) -> bool
     ensures { result ≡ stores_of (number_of answer) samples }
 {
-    (block::number(answer) == 0) & (samples > 0)
+    answer.is_ok() & (samples > 0)
 }
 
-// A word as a whole number in two's complement. A cast has to keep the number, so negative ones are counted down from -1.
+// A word as a whole number in two's complement.
 pub fn signed(word: u32) -> i32
     ensures { result ≡ signed_of word }
 {
-    if word < 0x8000_0000 {
-        word as i32
-    } else {
-        -1 - (0xffff_ffff - word) as i32
-    }
+    word.cast_signed()
 }
 
-// And a whole number as a word: here too negative ones are counted, from the highest word down.
+// And a whole number as a word.
 pub fn unsigned(number: i32) -> u32
     ensures { result ≡ unsigned_of number }
 {
-    if number < 0 {
-        0xffff_ffff - (-1 - number) as u32
-    } else {
-        number as u32
-    }
+    number.cast_unsigned()
 }

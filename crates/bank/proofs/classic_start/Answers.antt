@@ -13,4 +13,4 @@ unfolding lt le neg of_bits
 answered s = refl
 
 pub returns : goal.returns
-returns c = ap (λ (x : Start). x.state) c.init-started.ensures ∙ answered _
+returns c = ap (λ (x : Start). x.state) c.init.ensures ∙ answered _

@@ -12,4 +12,4 @@ slice_bounds-buffer-end c = omega (arith, c.lent-e.ensures, lent_most c.args.n)
 pub returns : goal.returns
 returns c =
     let a = c.args in
-    c.on_block.ensures ∙ ap (λ (m : Made). handed a.bank m a.out.now) (lent_part a.bank a.settings a.registration a.n _ 4097 refl c.lent-e.ensures)
+    c.on_block.ensures ∙ ap (λ (m : Made). handed a.bank.now m a.out.now) (lent_part a.bank.now a.settings a.registration a.n _ 4097 refl c.lent-e.ensures)

@@ -4,12 +4,12 @@ use Rattle.jobs.proofs.Plays.{plays, refuses}
 use Rattle.jobs.specs.Record.{step_count_in, nes_of}
 use Rattle.jobs.proofs.nes.Goals as goal
 
-pub returns-then-step_count_in : goal.returns-then-step_count_in
+pub returns-then-not-step_count_in : goal.returns-then-not-step_count_in
 unfolding nes_of
-returns-then-step_count_in c =
-    plays (sym (ap step_count_in c.word_at-steps.ensures) ∙ sym c.step_count_in.ensures ∙ c.if-step_count_in.true) (rw (c.float_at.ensures, c.word_at-steps.ensures) refl)
+returns-then-not-step_count_in c =
+    refuses _ (sym (ap step_count_in c.word_at-steps.ensures) ∙ sym c.step_count_in.ensures ∙ c.if-not-step_count_in.true)
 
-pub returns-else-step_count_in : goal.returns-else-step_count_in
+pub returns : goal.returns
 unfolding nes_of
-returns-else-step_count_in c =
-    refuses _ (sym (ap step_count_in c.word_at-steps.ensures) ∙ sym c.step_count_in.ensures ∙ c.if-step_count_in.false)
+returns c =
+    plays (sym (ap step_count_in c.word_at-steps.ensures) ∙ sym c.step_count_in.ensures ∙ c.if-not-step_count_in.false) (rw (c.float_at.ensures, c.word_at-steps.ensures) refl)

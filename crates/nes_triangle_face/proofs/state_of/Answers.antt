@@ -1,5 +1,5 @@
 -- `nes_triangle_face::state_of` meets its contract: field by field. Assumes nothing.
-use Rattle.words.proofs.Words.{signed_kept}
+use Rattle.words.proofs.Signs.{signed_kept}
 use Rattle.nes_triangle_face.specs.Words.{state_of}
 use Rattle.nes_triangle_face.proofs.state_of.Goals as goal
 

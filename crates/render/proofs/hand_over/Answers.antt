@@ -1,11 +1,16 @@
 -- `render::hand_over` meets its contract: the text is copied where it fits. Assumes nothing.
-use Rattle.render.proofs.Handing.{handed, not_handed}
+use borrow.Author.Tests.{le-leb, lt-leb}
+use Rattle.render.specs.Lists.{written}
 use Rattle.render.proofs.hand_over.Goals as goal
 
-pub returns-then-from-out : goal.returns-then-from-out
-returns-then-from-out c =
-    let a = c.args in
-    rw c.fitted.ensures (handed a.good a.from.now a.out.now _ _ c.if-from-out.true c.append.ensures)
+pub returns-then-n-out : goal.returns-then-n-out
+unfolding written
+returns-then-n-out c = rw (lt-leb _ _ c.if-n-out.true)
 
-pub returns-else-from-out : goal.returns-else-from-out
-returns-else-from-out c = let a = c.args in not_handed a.good a.from.now a.out.now c.if-from-out.false
+pub returns-then-good : goal.returns-then-good
+unfolding written
+returns-then-good c = rw (le-leb _ _ c.if-n-out.false, c.copy_from_slice.ensures.after, c.if-good.true)
+
+pub returns-else-good : goal.returns-else-good
+unfolding written
+returns-else-good c = rw (le-leb _ _ c.if-n-out.false, c.copy_from_slice.ensures.after, c.if-good.false)

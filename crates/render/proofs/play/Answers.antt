@@ -4,4 +4,4 @@ use Rattle.render.proofs.Loop.{said}
 use Rattle.render.proofs.play.Goals as goal
 
 pub returns : goal.returns
-returns c = said _ _ _ _ _ (omega arith) c.play.ensures
+returns c = said _ _ _ _ _ _ (omega arith) c.play.ensures

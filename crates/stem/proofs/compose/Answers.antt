@@ -5,13 +5,10 @@ use Rattle.stems.proofs.Whole.{always_room}
 use Rattle.stem.proofs.compose.Goals as goal
 
 pub returns-clause-prefix_len : goal.returns-clause-prefix_len
-returns-clause-prefix_len c =
-    let s = c.compose-composed in
-    let told = always_room s.result _ _ _ s.ensures (search rules) in
-    rw c.count.ensures (prefix_len_of_le _ _ told.inside)
+returns-clause-prefix_len c = prefix_len_of_le _ _ (always_room _ _ _ _ c.compose.ensures (search rules)).inside
 
 pub returns-clause-number_value : goal.returns-clause-number_value
-returns-clause-number_value c =
-    let s = c.compose-composed in
-    let told = always_room s.result _ _ _ s.ensures (search rules) in
-    rw (c.number.ensures, c.count.ensures) (told.number_is, told.stem_is)
+returns-clause-number_value c = (always_room _ _ _ _ c.compose.ensures (search rules)).number_is
+
+pub returns-clause-stem_after : goal.returns-clause-stem_after
+returns-clause-stem_after c = (always_room _ _ _ _ c.compose.ensures (search rules)).stem_is

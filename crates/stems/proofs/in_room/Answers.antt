@@ -4,5 +4,4 @@ use Rattle.stems.proofs.Ways.{laid_written}
 use Rattle.stems.proofs.in_room.Goals as goal
 
 pub returns : goal.returns
-returns c =
-    c.write.ensures ∙ laid_written _ _ _ _ _ c.lay-n.ensures
+returns c = c.write.ensures ∙ laid_written _ _ _ _ _ c.lay-n.ensures

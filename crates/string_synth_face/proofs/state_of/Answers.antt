@@ -1,5 +1,5 @@
 -- `string_synth_face::state_of` meets its contract: field by field. Assumes nothing.
-use Rattle.words.proofs.Words.{signed_kept}
+use Rattle.words.proofs.Signs.{signed_kept}
 use Rattle.string_synth_face.specs.Words.{state_of}
 use Rattle.string_synth_face.proofs.state_of.Goals as goal
 

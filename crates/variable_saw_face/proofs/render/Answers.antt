@@ -1,13 +1,7 @@
 -- `variable_saw_face::render` meets its contract: the variable saw's own call, put into words. Assumes nothing.
-use mathlib.Core.Path.{◌∙◌, sym}
-use Rattle.words.proofs.Faces.{face_is}
+use Rattle.block.specs.Oscillator.{call_of}
 use Rattle.variable_saw_face.proofs.render.Goals as goal
 
-pub returns-then-no_bool : goal.returns-then-no_bool
-returns-then-no_bool c =
-    rw (c.no_state.ensures, sym c.no_bool.ensures ∙ c.if-no_bool.true)
-
 pub returns : goal.returns
-returns c =
-    rw (sym c.no_bool.ensures ∙ c.if-no_bool.false)
-    (face_is _ _ (rw c.state_of.ensures at c.render-r.ensures) c.stores.ensures c.words_of.ensures c.store.ensures c.result_of.ensures)
+unfolding call_of
+returns c = c.render.ensures

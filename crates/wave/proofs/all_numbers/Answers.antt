@@ -1,18 +1,13 @@
--- `wave::all_numbers` meets its contract. The loop's invariant: what is asked of the whole is asked of the samples from `i` on. Assumes nothing.
-use mathlib.Core.Path.{refl, sym, ◌∙◌}
-use Rattle.wave.proofs.Numbers.{numbers_stop, numbers_more, numbers_end}
+-- `wave::all_numbers` meets its contract: it asks of each sample what the definition asks. Assumes nothing.
+use mathlib.Core.Bool.{not}
+use mathlib.Core.Path.{◌∙◌}
+use borrow.Author.Rules.{rules}
+use Rattle.std.specs.Float.Ieee.{is_nan}
+use Rattle.std.proofs.lemmas.Iterator.{YieldsList-from_slice}
+use Rattle.std.proofs.lemmas.Iterator.Search.{all_from_yields_List}
+use Rattle.wave.proofs.Numbers.{each_number}
 use Rattle.wave.proofs.all_numbers.Goals as goal
 
-pub returns-then-is_nan : goal.returns-then-is_nan
-returns-then-is_nan c =
-    sym (c.loop-i.invariant ∙ numbers_stop _ _ _ _ c.loop-i-test.true c.is_nan.ensures c.if-is_nan.true)
-
-pub loop-i-preserved : goal.loop-i-preserved
-loop-i-preserved c =
-    c.loop-i.invariant ∙ numbers_more _ _ _ _ c.loop-i-test.true c.is_nan.ensures c.if-is_nan.false
-
-pub loop-i-init : goal.loop-i-init
-loop-i-init c = refl
-
 pub returns : goal.returns
-returns c = sym (c.loop-i.invariant ∙ numbers_end _ _ c.loop-i-test.false)
+returns c =
+    all_from_yields_List (λ x. not (is_nan x)) _ _ _ c.all.ensures.ran (YieldsList-from_slice c.args.samples.now cc) (λ x b q k. search rules) ∙ each_number c.args.samples.now

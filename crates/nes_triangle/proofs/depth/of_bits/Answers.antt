@@ -1,11 +1,8 @@
 -- `nes_triangle::depth::of_bits` meets its contract. Assumes nothing.
-use Rattle.std.proofs.Common.{refl, pow_pos}
+use Rattle.std.proofs.Common.{refl}
 use Rattle.nes_triangle.specs.Depth.{depth_of}
 use Rattle.nes_triangle.proofs.Depths.{two_steps, top_some}
 use Rattle.nes_triangle.proofs.depth.of_bits.Goals as goal
-
-pub top-top-requires : goal.top-top-requires
-top-top-requires c = rw c.steps-num_steps.ensures (pow_pos _)
 
 pub scale-requires : goal.scale-requires
 scale-requires c =

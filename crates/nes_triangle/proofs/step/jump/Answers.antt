@@ -3,9 +3,6 @@ use Rattle.std.proofs.Common.{T, sym, subst}
 use Rattle.nes_triangle.proofs.Silent.{silent}
 use Rattle.nes_triangle.proofs.step.jump.Goals as goal
 
-pub returns-then-g : goal.returns-then-g
-returns-then-g c = rw (c.edge.ensures, c.step_sign.ensures)
-
 pub returns-else-g : goal.returns-else-g
 returns-else-g c =
     silent c.args.d.num_steps c.args.d.half _ _ _ _ _ (subst T (sym c.well_formed.1.0.1.1.0.1) tt) c.if-g.false

@@ -1,5 +1,4 @@
 -- `stems::sound::lay` meets its contract. The loop's invariant: the samples of the first `k` records are laid. Assumes nothing.
-use Prim.Native.Nat.{◌-◌}
 use Rattle.bank.specs.Bank.{init_bank}
 use Rattle.render.specs.Lists.{records_from}
 use Rattle.stems.specs.Sound.{sound_of}
@@ -8,6 +7,3 @@ use Rattle.stems.proofs.sound.lay.Given as goal
 
 abbrev pub invariant-loop-k : goal.invariant-loop-k
 invariant-loop-k l = Laying (sound_of init_bank (records_from l.list 0 l.n)) l.list l.n l.initial.samples l.samples l.bank l.at l.k
-
-abbrev pub decreases-loop-k : goal.decreases-loop-k
-decreases-loop-k l = l.n - l.k

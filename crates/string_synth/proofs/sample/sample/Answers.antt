@@ -4,8 +4,8 @@ use Rattle.string_synth.proofs.Segments.{reached_small}
 use Rattle.string_synth.specs.Sample.{sample_of}
 use Rattle.string_synth.proofs.sample.sample.Goals as goal
 
-pub finish-requires : goal.finish-requires
-finish-requires c = record { segment_in_range = rw c.reach-e.ensures (reached_small _ _); starts_of_segment = c.starts_of.ensures }
+pub finish-requires-clause-segment_in_range : goal.finish-requires-clause-segment_in_range
+finish-requires-clause-segment_in_range c = rw c.reach-e.ensures (reached_small _ _)
 
 pub returns : goal.returns
 unfolding sample_of

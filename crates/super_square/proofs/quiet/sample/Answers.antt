@@ -4,8 +4,8 @@ use Rattle.super_square.specs.Sample.{finish}
 use Rattle.super_square.proofs.Samples.{sample_quiet}
 use Rattle.super_square.proofs.quiet.sample.Goals as goal
 
-pub returns : goal.returns
+pub returns-clause-made : goal.returns-clause-made
 unfolding finish
-returns c =
+returns-clause-made c =
     let p = c.args in
     rw (c.level.ensures, c.none.ensures) (sym (sample_quiet p.s p.master_frequency p.slave_frequency c.requires))

@@ -1,6 +1,0 @@
--- `classic::refuse` meets its contract. Assumes nothing.
-use Rattle.std.proofs.Common.{refl}
-use Rattle.classic.proofs.refuse.Goals as goal
-
-pub returns : goal.returns
-returns c = rw c.none.ensures refl

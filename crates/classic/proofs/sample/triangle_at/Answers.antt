@@ -1,8 +1,0 @@
--- `classic::sample::triangle_at` meets its contract: each way of the test is the definition's. Assumes nothing.
-use Rattle.classic.proofs.sample.triangle_at.Goals as goal
-
-pub returns-then-high : goal.returns-then-high
-returns-then-high c = rw c.if-high.true
-
-pub returns-else-high : goal.returns-else-high
-returns-else-high c = rw c.if-high.false

@@ -1,5 +1,0 @@
--- `edges::fallen` meets its contract. Assumes nothing.
-use Rattle.edges.proofs.fallen.Goals as goal
-
-pub returns : goal.returns
-returns c = rw (c.fell_if.ensures, c.is_late.ensures)

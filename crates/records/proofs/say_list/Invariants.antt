@@ -1,6 +1,0 @@
--- `records::say_list` is safe and ends: the measure is the number of records left. Assumes nothing.
-use Rattle.std.specs.Prelude.{◌-◌}
-use Rattle.records.proofs.say_list.Given as goal
-
-abbrev pub decreases-loop-k : goal.decreases-loop-k
-decreases-loop-k l = l.count - l.k

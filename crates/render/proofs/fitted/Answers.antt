@@ -1,8 +1,0 @@
--- `render::fitted` meets its contract. Assumes nothing.
-use Rattle.render.proofs.fitted.Goals as goal
-
-pub returns-then-good : goal.returns-then-good
-returns-then-good c = rw c.if-good.true
-
-pub returns-else-good : goal.returns-else-good
-returns-else-good c = rw c.if-good.false

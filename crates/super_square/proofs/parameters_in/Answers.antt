@@ -1,9 +1,0 @@
--- `super_square::parameters_in` meets its contract. Assumes nothing.
-use mathlib.Core.List.{[], ◌∷◌}
-use Rattle.ranges.proofs.AllOf.{joined_all}
-use Rattle.super_square.specs.Block.{parameters_in}
-use Rattle.super_square.proofs.parameters_in.Goals as goal
-
-pub returns : goal.returns
-unfolding parameters_in
-returns c = rw (c.parameter_frequency_in.ensures, c.unit_in.ensures) (joined_all _ (_ ∷ []))

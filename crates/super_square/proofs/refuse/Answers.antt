@@ -1,6 +1,0 @@
--- `super_square::refuse` meets its contract. Assumes nothing.
-use mathlib.Core.Path.{refl}
-use Rattle.super_square.proofs.refuse.Goals as goal
-
-pub returns : goal.returns
-returns c = rw c.none.ensures refl

@@ -1,5 +1,0 @@
--- `super_square_face::init` meets its contract: the words of the oscillator's own initial state. Assumes nothing.
-use Rattle.super_square_face.proofs.init.Goals as goal
-
-pub returns : goal.returns
-returns c = cc

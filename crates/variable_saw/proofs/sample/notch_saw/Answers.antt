@@ -1,8 +1,0 @@
--- `variable_saw::sample::notch_saw` meets its contract: each way of the test is the definition's. Assumes nothing.
-use Rattle.variable_saw.proofs.sample.notch_saw.Goals as goal
-
-pub returns-then-phase-pw : goal.returns-then-phase-pw
-returns-then-phase-pw c = rw c.if-phase-pw.true
-
-pub returns-else-phase-pw : goal.returns-else-phase-pw
-returns-else-phase-pw c = rw c.if-phase-pw.false

@@ -1,8 +1,0 @@
--- `variable_shape::sample::plain_start` meets its contract. Assumes nothing.
-use mathlib.Core.Path.{refl}
-use Rattle.variable_shape.specs.Private.{plain_start}
-use Rattle.variable_shape.proofs.sample.plain_start.Goals as goal
-
-pub returns : goal.returns
-unfolding plain_start
-returns c = rw c.edge.ensures refl

@@ -1,9 +1,0 @@
--- `variable_shape_face::store_first` meets its contract. Assumes nothing.
-use borrow.Author.Tests.{eq-eqb, ne_eqb}
-use Rattle.variable_shape_face.proofs.store_first.Goals as goal
-
-pub returns-then-number-eq0 : goal.returns-then-number-eq0
-returns-then-number-eq0 c = rw (eq-eqb _ 0 c.if-number-eq0.true)
-
-pub returns-else-number-eq0 : goal.returns-else-number-eq0
-returns-else-number-eq0 c = rw (ne_eqb _ 0 c.if-number-eq0.false)
