@@ -2,6 +2,8 @@
 // with what it left. A last record that is not whole is left out.
 #![tactic(auto)]
 
+ghost use Rattle.std.specs.Prelude.{◌≤◌};
+
 mod kinds;
 mod line;
 mod record;
@@ -22,13 +24,21 @@ fn print_next(rt: HostRuntime) -> bool {
         && streams::write(rt, b"calls", line_of(&record).as_bytes())
 }
 
-// A record's line. Of the buffer the call gets as many samples as its block is long.
+// A record's line. A block that is too long has no room, and none is made for it.
 fn line_of(record: &[u8; 128]) -> Line {
-    let mut buffer = [0.0f32; 8192];
-    match buffer.get_mut(..record::block_length(record)) {
-        Some(out) => line_of_call(record, out),
-        None => line::dash(),
+    let n = record::block_length(record);
+    if n > 8192 {
+        return line::dash();
     }
+    line_in_room(record, n)
+}
+
+// Of the buffer the call gets as many samples as its block is long.
+fn line_in_room(record: &[u8; 128], n: usize) -> Line
+    requires { n ≤ 8192 }
+{
+    let mut buffer = [0.0f32; 8192];
+    line_of_call(record, &mut buffer[..n])
 }
 
 // The line of the call with this block, by its kind. That is the record's first byte, as its second below: recorded input, whose layout does not change.

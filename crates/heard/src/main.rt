@@ -15,11 +15,13 @@ fn main(rt: HostRuntime) {
 // Prints the lines of the next list, and answers whether there may be more.
 fn say_next(rt: HostRuntime) -> bool {
     let mut length = [0u8; 4];
-    if !streams::fill(rt, b"heard", &mut length) {
-        return false;
-    }
+    streams::fill(rt, b"heard", &mut length) && say_list_of(rt, u32::from_le_bytes(length) as usize)
+}
+
+// A list of n bytes. The room for it stands first in a function: behind a call it would be cleared twice.
+fn say_list_of(rt: HostRuntime, n: usize) -> bool {
     let mut space = [0u8; 70000];
-    match space.get_mut(..u32::from_le_bytes(length) as usize) {
+    match space.get_mut(..n) {
         Some(list) => {
             streams::fill(rt, b"heard", list)
                 && say_list(rt, list)

@@ -11,11 +11,13 @@ fn main(rt: HostRuntime) {
 // with a closure for the rest would be.
 fn print_next(rt: HostRuntime) -> bool {
     let mut length = [0u8; 4];
-    if !streams::fill(rt, b"lists", &mut length) {
-        return false;
-    }
+    streams::fill(rt, b"lists", &mut length) && print_list(rt, u32::from_le_bytes(length) as usize)
+}
+
+// A list of n bytes. The room for it stands first in a function: behind a call it would be cleared twice.
+fn print_list(rt: HostRuntime, n: usize) -> bool {
     let mut space = [0u8; 70000];
-    match space.get_mut(..u32::from_le_bytes(length) as usize) {
+    match space.get_mut(..n) {
         Some(list) => streams::fill(rt, b"lists", list) && print_text(rt, list),
         None => false,
     }

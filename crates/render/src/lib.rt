@@ -1,7 +1,7 @@
 // A job list becomes one line of text for each record, in a lent buffer.
 #![tactic(auto)]
 
-ghost use Rattle.std.specs.Prelude.{◌≡◌, ◌/◌, length, IsTrue};
+ghost use Rattle.std.specs.Prelude.{◌≡◌, ◌/◌, [], length, IsTrue};
 ghost use Rattle.render.specs.Lists.{records_from, lines_of, is_job_list, text_of, answer_if, written, render_of, count_of, handed_back};
 ghost use Rattle.bank.specs.Bank.{record_played};
 ghost use Rattle.render.specs.Private.{said_by, said_of};
@@ -42,7 +42,8 @@ pub fn count(written: Written) -> usize
 pub fn render(list: &[u8], out: &mut [u8]) -> Written
     ensures { handed_back result out.new ≡ render_of list.now out.old }
 {
-    let text = compose(list);
+    let mut text = Text::new();
+    compose(list, &mut text);
     hand_over(is_job_list(list), text.bytes.as_slice(), out)
 }
 
@@ -62,29 +63,29 @@ fn hand_over(good: bool, text: &[u8], out: &mut [u8]) -> Written
     }
 }
 
-fn compose(list: &[u8]) -> Text
-    ensures { result.bytes.items ≡ text_of list.now }
+// The text of a good list or of a malformed one, in a room that is lent: a text is large, and is made once.
+fn compose(list: &[u8], text: &mut Text)
+    requires { text.old.bytes.items ≡ [] }
+    ensures { text.new.bytes.items ≡ text_of list.now }
 {
     if is_job_list(list) {
-        return records(list);
+        records(list, text);
+    } else {
+        text.number(Refusal::BadInput.number(), b'\n');
     }
-    let mut text = Text::new();
-    text.number(Refusal::BadInput.number(), b'\n');
-    text
 }
 
 // The lines of every record. Each kind's state goes from record to record. By number, which is said in the line.
-fn records(list: &[u8]) -> Text
-    requires { IsTrue (is_job_list list.now) }
-    ensures { result.bytes.items ≡ lines_of (records_from list.now 0 (length list.now / 64)) }
+fn records(list: &[u8], text: &mut Text)
+    requires empty { text.old.bytes.items ≡ [] }
+    requires good { IsTrue (is_job_list list.now) }
+    ensures { text.new.bytes.items ≡ lines_of (records_from list.now 0 (length list.now / 64)) }
 {
-    let mut text = Text::new();
     let mut bank = bank::start();
     for k in 0..list.len() / 64 {
         let answer = play(&mut bank, jobs::record(list, k));
         text.line(k as u32, answer);
     }
-    text
 }
 
 // A line says nothing of the samples: they go to a buffer that no one reads, of a length that is always enough.

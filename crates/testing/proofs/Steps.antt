@@ -1,11 +1,9 @@
 -- A line that takes one text more, and the words and digits that it is given. Assumes nothing.
-use Rattle.std.proofs.Common.{◌≡◌, Bool, true, refl, ◌∙◌, ap, ℕ, zero, suc, ◌+◌, ◌^◌, ◌≤◌, ◌<◌, ◌-◌, min, List, [], ◌∷◌, ◌++◌, length, take, drop, get_or, arith, append_assoc, add-one, drop-cons}
-use native.Mathlib.Nat.{pow-le-pow_right, div-div-eq-div-mul}
+use Rattle.std.proofs.Common.{◌≡◌, Bool, true, refl, ◌∙◌, ap, ℕ, zero, suc, ◌+◌, ◌≤◌, ◌<◌, min, List, [], ◌∷◌, ◌++◌, length, take, drop, get_or, arith, append_assoc, add-one, drop-cons}
 use lib.ListN.{drop_of_length-le}
 use Rattle.std.proofs.Math.Seq.{take-append-add}
 use Rattle.std.proofs.lemmas.Grind.{common_steps}
-use Rattle.io.specs.Digits.{last_digits, IsDigitCount}
-use Rattle.testing.specs.Text.{byte_of, put_of, word_text, after_of, words_of}
+use Rattle.testing.specs.Text.{put_of, word_text, after_of, words_of}
 use Rattle.testing.specs.Turns.{Taken}
 
 -- as much of a text as fits
@@ -20,24 +18,6 @@ take_twice (suc room) (x ∷ one) two = ap (λ xs. x ∷ xs) (take_twice room on
 -- a text after another is the two as one
 put_twice : (room : ℕ) (line one two : List ℕ) → put_of room two (put_of room one line) ≡ put_of room (one ++ two) line
 put_twice room line one two = take_twice room (line ++ one) two ∙ ap (take room) (append_assoc line one two)
-
-pow_grows : (i j : ℕ) → i ≤ j → 16 ^ i ≤ 16 ^ j
-pow_grows i j h = pow-le-pow_right (omega arith) h
-
--- eight digits of a word
-module _ (places word : ℕ) (h : IsDigitCount 16 8 word places) (k : word < 2 ^ 32) where
-  no_more : 8 < places → ⊥
-  no_more e = omega (arith, h.2 e, pow_grows 8 (places - 1) (omega arith), k)
-
-  eight : places ≡ 8
-  eight = omega (arith, h.0, no_more)
-
-eight_digits : (word after : ℕ) → last_digits 16 8 word ++ after ∷ [] ≡ word_text word after
-eight_digits word after = simp div-div-eq-div-mul refl
-
-pub word_put : (room places word after : ℕ) (line : List ℕ) → IsDigitCount 16 8 word places → word < 2 ^ 32 → byte_of room after (put_of room (last_digits 16 places word) line) ≡ put_of room (word_text word after) line
-word_put room places word after line h k =
-    rw (eight places word h k) (put_twice room line (last_digits 16 8 word) (after ∷ []) ∙ ap (λ text. put_of room text line) (eight_digits word after))
 
 -- a word before the last one, and the last one
 after_more : (rest : List ℕ) (end last : ℕ) → after_of (rest ++ end ∷ []) last ≡ 32

@@ -1,5 +1,6 @@
 // Lines of text of a fixed room: what has no room is left out.
-ghost use Rattle.std.specs.Prelude.{◌≡◌, [], take};
+ghost use Rattle.std.specs.Prelude.{◌≡◌, ◌%◌, [], take};
+ghost use Rattle.io.specs.Digits.{hex_digit_ascii};
 ghost use Rattle.testing.specs.Text.{byte_of, put_of, word_text, words_of, Numbered};
 
 use arrayvec::ArrayVec;
@@ -35,15 +36,22 @@ impl<const N: usize> Line<N> {
         let _ = self.bytes.try_extend_from_slice(&text[..fitting]);
     }
 
-    // Eight hexadecimal digits, and the byte after them. By `io::hex`, which says how many digits there are, and `put_number` by `io::decimal`: `write!`
-    // says what it wrote only where it did not fail, and not that it does not.
+    // Eight hexadecimal digits, and the byte after them. One by one, since `io::hex` counts the digits of 64 bits first, and that took most of a program's time.
     pub fn put_word(&mut self, word: u32, after: u8)
         ensures { self.new.bytes.items ≡ put_of N (word_text word after) self.old.bytes.items }
     {
-        let mut digits = [0u8; 16];
-        let places = io::hex(u64::from(word), 8, &mut digits);
-        self.put(&digits[..places]);
-        self.put_byte(after);
+        let text = [
+            digit(word / 0x1000_0000),
+            digit(word / 0x100_0000),
+            digit(word / 0x10_0000),
+            digit(word / 0x1_0000),
+            digit(word / 0x1000),
+            digit(word / 0x100),
+            digit(word / 0x10),
+            digit(word),
+            after,
+        ];
+        self.put(&text);
     }
 
     // Words with a space between them, and the byte after the last.
@@ -58,7 +66,8 @@ impl<const N: usize> Line<N> {
         }
     }
 
-    // The shortest digits of a number, and the byte after them.
+    // The shortest digits of a number, and the byte after them. By `io::decimal`: `write!` says what it wrote only where it did not fail, and not that it
+    // does not.
     pub fn put_number(&mut self, number: u32, after: u8)
         ensures { Numbered N number after self.old.bytes.items self.new.bytes.items }
     {
@@ -73,6 +82,18 @@ impl<const N: usize> Line<N> {
         ensures { result.now ≡ self.now.bytes.items }
     {
         self.bytes.as_slice()
+    }
+}
+
+// The last hexadecimal digit.
+fn digit(number: u32) -> u8
+    ensures { result ≡ hex_digit_ascii (number % 16) }
+{
+    let n = number % 16;
+    if n < 10 {
+        (48 + n) as u8
+    } else {
+        (87 + n) as u8
     }
 }
 

@@ -6,5 +6,5 @@ use Rattle.render.proofs.compose.Goals as goal
 pub returns-then-is_job_list : goal.returns-then-is_job_list
 returns-then-is_job_list c = c.records.ensures ∙ sym (good_list _ (sym c.is_job_list.ensures ∙ c.if-is_job_list.true))
 
-pub returns : goal.returns
-returns c = rw (c.number-2.ensures.text, c.new-text.ensures, c.number.ensures) (sym (bad_list _ (sym c.is_job_list.ensures ∙ c.if-is_job_list.false)))
+pub returns-else-is_job_list : goal.returns-else-is_job_list
+returns-else-is_job_list c = rw (c.number-else-is_job_list.ensures.text, c.requires, c.number.ensures) (sym (bad_list _ (sym c.is_job_list.ensures ∙ c.if-is_job_list.false)))

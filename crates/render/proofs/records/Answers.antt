@@ -9,7 +9,7 @@ use Rattle.render.proofs.Loop.{running_start, running_more, running_end}
 use Rattle.render.proofs.records.Goals as goal
 
 pub loop-k-init : goal.loop-k-init
-loop-k-init c = running_start _ _ _ _ c.start-bank.ensures c.new-text.ensures
+loop-k-init c = running_start _ _ _ _ c.start-bank.ensures c.requires.empty
 
 pub loop-k-preserved : goal.loop-k-preserved
 loop-k-preserved c =
