@@ -4,9 +4,8 @@
 
 ghost use Rattle.std.specs.Prelude.{◌≡◌, take};
 ghost use Rattle.io.specs.Counts.{IsPrefixLen};
-ghost use Rattle.stems.specs.Compose.{number_of, count_of, stem_for, number_for};
-
-use stems::Refusal;
+ghost use Rattle.stems.specs.Compose.{stem_for, number_for};
+ghost use Rattle.stem.specs.Told.{number_of, count_of};
 
 // An input that could not be read to its end is none: nothing is written for it.
 fn main(rt: HostRuntime) {
@@ -28,8 +27,7 @@ fn write(rt: HostRuntime, input: &[u8], stem: &mut [u8; wave::ROOM]) {
         Ok(end) => {
             streams::write(rt, b"stem", &stem[..end]);
         }
-        Err(refusal) => {
-            let number = stems::number(Err(refusal));
+        Err(number) => {
             let _ = eprintln!(rt; "{number}");
         }
     }
@@ -37,10 +35,13 @@ fn write(rt: HostRuntime, input: &[u8], stem: &mut [u8; wave::ROOM]) {
 
 // What is written for the bytes that were read: their stem, whole, and nothing else, and the number that is said of them. That is all that a contract can
 // say of the program; which bytes those are, no contract says.
-fn compose(input: &[u8], stem: &mut [u8; wave::ROOM]) -> Result<usize, Refusal>
+fn compose(input: &[u8], stem: &mut [u8; wave::ROOM]) -> Result<usize, u32>
     ensures prefix_len { IsPrefixLen (count_of result) stem.new }
     ensures number_value { number_of result ≡ number_for input.now }
     ensures stem_after { take (count_of result) stem.new ≡ stem_for input.now }
 {
-    stems::compose(input, stem)
+    match stems::compose(input, stem) {
+        Ok(end) => Ok(end),
+        Err(refusal) => Err(stems::number(Err(refusal))),
+    }
 }

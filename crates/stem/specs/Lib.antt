@@ -1,0 +1,2 @@
+-- Definitions of the crate. Assumes nothing.
+pub mod Told
