@@ -1,4 +1,4 @@
--- A line that takes one text more, and the words and digits that it is given. Assumes nothing.
+-- A line that takes one text more, and the words that it is given. Assumes nothing.
 use Rattle.std.proofs.Common.{◌≡◌, Bool, true, refl, ◌∙◌, ap, ℕ, zero, suc, ◌+◌, ◌≤◌, ◌<◌, min, List, [], ◌∷◌, ◌++◌, length, take, drop, get_or, arith, append_assoc, add-one, drop-cons}
 use lib.ListN.{drop_of_length-le}
 use Rattle.std.proofs.Math.Seq.{take-append-add}

@@ -36,7 +36,7 @@ impl<const N: usize> Line<N> {
         let _ = self.bytes.try_extend_from_slice(&text[..fitting]);
     }
 
-    // Eight hexadecimal digits, and the byte after them. One by one, since `io::hex` counts the digits of 64 bits first, and that took most of a program's time.
+    // Eight hexadecimal digits, and the byte after them. One by one, since `io::hex` counts the digits of 64 bits first, and that took up to half of a program's time.
     pub fn put_word(&mut self, word: u32, after: u8)
         ensures { self.new.bytes.items ≡ put_of N (word_text word after) self.old.bytes.items }
     {
