@@ -1,8 +1,14 @@
--- A line that takes one text more, and the words that it is given. Assumes nothing.
+-- A line that takes one text more, and the words and digits that it is given. Assumes nothing.
 use Rattle.std.proofs.Common.{◌≡◌, Bool, true, refl, ◌∙◌, ap, ℕ, zero, suc, ◌+◌, ◌≤◌, ◌<◌, min, List, [], ◌∷◌, ◌++◌, length, take, drop, get_or, arith, append_assoc, add-one, drop-cons}
+use native.Mathlib.Nat.{div-div-eq-div-mul}
 use lib.ListN.{drop_of_length-le}
 use Rattle.std.proofs.Math.Seq.{take-append-add}
 use Rattle.std.proofs.lemmas.Grind.{common_steps}
+use Rattle.io.specs.Digits.{hex_digit_ascii}
+use Rattle.std.specs.Prelude.{slice_index, ◌/◌, ◌%◌}
+use Rattle.std.specs.Int.{to_be_bytes, w32}
+use Rattle.hex.specs.Hex.{lower_digits, encode_with, encode_lower}
+use borrow.Enum.Match.{each_below}
 use Rattle.testing.specs.Text.{put_of, word_text, after_of, words_of}
 use Rattle.testing.specs.Turns.{Taken}
 
@@ -16,8 +22,26 @@ take_twice (suc room) [] two = refl
 take_twice (suc room) (x ∷ one) two = ap (λ xs. x ∷ xs) (take_twice room one two)
 
 -- a text after another is the two as one
-put_twice : (room : ℕ) (line one two : List ℕ) → put_of room two (put_of room one line) ≡ put_of room (one ++ two) line
+pub put_twice : (room : ℕ) (line one two : List ℕ) → put_of room two (put_of room one line) ≡ put_of room (one ++ two) line
 put_twice room line one two = take_twice room (line ++ one) two ∙ ap (take room) (append_assoc line one two)
+
+-- the digit of the table at a place is the place's digit
+digit_read : (d : ℕ) → d < 16 → slice_index lower_digits d ≡ hex_digit_ascii d
+digit_read = each_below 16 (λ d. slice_index lower_digits d ≡ hex_digit_ascii d) (refl, (refl, (refl, (refl, (refl, (refl, (refl, (refl, (refl, (refl, (refl, (refl, (refl, (refl, (refl, (refl, tt))))))))))))))))
+
+-- a byte of a word gives two of its digits
+high_half : (n : ℕ) → slice_index lower_digits (n % 256 / 16) ≡ hex_digit_ascii (n / 16 % 16)
+high_half n = digit_read _ (omega arith) ∙ ap hex_digit_ascii (omega arith)
+
+low_half : (n : ℕ) → slice_index lower_digits (n % 256 % 16) ≡ hex_digit_ascii (n % 16)
+low_half n = digit_read _ (omega arith) ∙ ap hex_digit_ascii (omega arith)
+
+-- the eight digits of a word, by its four bytes
+pub word_digits : (word after : ℕ) → encode_lower (to_be_bytes w32 word) ++ after ∷ [] ≡ word_text word after
+unfolding encode_with
+word_digits word after =
+    rw (high_half (word / 16777216), low_half (word / 16777216), high_half (word / 65536), low_half (word / 65536), high_half (word / 256), low_half (word / 256), high_half word, low_half word)
+    (simp div-div-eq-div-mul refl)
 
 -- a word before the last one, and the last one
 after_more : (rest : List ℕ) (end last : ℕ) → after_of (rest ++ end ∷ []) last ≡ 32

@@ -1,6 +1,5 @@
 // Lines of text of a fixed room: what has no room is left out.
-ghost use Rattle.std.specs.Prelude.{◌≡◌, ◌%◌, [], take};
-ghost use Rattle.io.specs.Digits.{hex_digit_ascii};
+ghost use Rattle.std.specs.Prelude.{◌≡◌, [], take};
 ghost use Rattle.testing.specs.Text.{byte_of, put_of, word_text, words_of, Numbered};
 
 use arrayvec::ArrayVec;
@@ -25,7 +24,7 @@ impl<const N: usize> Line<N> {
     pub fn put_byte(&mut self, byte: u8)
         ensures { self.new.bytes.items ≡ byte_of N byte self.old.bytes.items }
     {
-        self.put(&[byte]);
+        let _ = self.bytes.try_push(byte);
     }
 
     // Likewise a text, as much of it as there is room for.
@@ -36,22 +35,15 @@ impl<const N: usize> Line<N> {
         let _ = self.bytes.try_extend_from_slice(&text[..fitting]);
     }
 
-    // Eight hexadecimal digits, and the byte after them. One by one, since `io::hex` counts the digits of 64 bits first, and that took up to half of a program's time.
+    // Eight hexadecimal digits, and the byte after them. By the crate `hex`, over the word's bytes: `io::hex` counts the digits of 64 bits first, and took up to
+    // half of a program's time.
     pub fn put_word(&mut self, word: u32, after: u8)
         ensures { self.new.bytes.items ≡ put_of N (word_text word after) self.old.bytes.items }
     {
-        let text = [
-            digit(word / 0x1000_0000),
-            digit(word / 0x100_0000),
-            digit(word / 0x10_0000),
-            digit(word / 0x1_0000),
-            digit(word / 0x1000),
-            digit(word / 0x100),
-            digit(word / 0x10),
-            digit(word),
-            after,
-        ];
-        self.put(&text);
+        let mut digits = [0u8; 8];
+        let _ = hex::encode_to_slice(word.to_be_bytes(), &mut digits);
+        self.put(&digits);
+        self.put_byte(after);
     }
 
     // Words with a space between them, and the byte after the last.
@@ -82,18 +74,6 @@ impl<const N: usize> Line<N> {
         ensures { result.now ≡ self.now.bytes.items }
     {
         self.bytes.as_slice()
-    }
-}
-
-// The last hexadecimal digit.
-fn digit(number: u32) -> u8
-    ensures { result ≡ hex_digit_ascii (number % 16) }
-{
-    let n = number % 16;
-    if n < 10 {
-        (48 + n) as u8
-    } else {
-        (87 + n) as u8
     }
 }
 
